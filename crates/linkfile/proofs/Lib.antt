@@ -1,0 +1,5 @@
+pub mod Classes
+pub mod Faults
+pub mod Counted
+pub mod Tabled
+pub mod Passed

@@ -1,0 +1,71 @@
+-- What a file that passed is: its rules hold one by one, and its tables are sound.
+use mathlib.Core.Path.{_≡_, refl, sym, ap, _∙_}
+use mathlib.Core.Bool.{Bool, true, false}
+use mathlib.Core.List.{List}
+use Prim.Native.Nat.{ℕ, _+_, _<_, _≤_}
+use native.Mathlib.Omega.{arith}
+use Rattle.linkfile.specs.Format.{marked, countsFit, laidOut, personCount, linkCount, feedCount, row}
+use Rattle.linkfile.specs.Verdict.{Fault, sound, fault, unless, firstOf, firstAmong, Verdict, passed, refused, verdict}
+use Rattle.linkfile.specs.Checked.{feedFault, rowFault, ownedFault, tablesFault, checked}
+use Rattle.linkfile.specs.Inside.{Laid, Rowed}
+use Rattle.linkfile.specs.Answers.{verdictSaid, Checks}
+use Rattle.linkfile.specs.declared.Verdict as code
+use Rattle.linkfile.specs.declared.Counts.{Counts}
+use Rattle.linkfile.proofs.Tabled.{rows-keep, rows-below}
+
+-- the rules of a file that passed
+pub record Passed (file : List ℕ) (n m f : ℕ) : Type 0 where
+  pub marks : marked file ≡ true
+  pub fits : countsFit file ≡ true
+  pub lays : laidOut file ≡ true
+  pub tables : tablesFault file ≡ sound
+  pub persons : n ≡ personCount file
+  pub links : m ≡ linkCount file
+  pub feeds : f ≡ feedCount file
+
+pub passed-rules : (file : List ℕ) {n m f : ℕ} → checked file ≡ passed n m f → Passed file n m f
+unfolding checked
+passed-rules file {n} {m} {f} e = go (marked file) (countsFit file) (laidOut file) (tablesFault file) refl refl refl refl e
+  where
+    go : (a b c : Bool) (t : Fault) → marked file ≡ a → countsFit file ≡ b → laidOut file ≡ c → tablesFault file ≡ t
+        → verdict (unless a 1 0 (unless b 2 0 (unless c 3 0 t))) (personCount file) (linkCount file) (feedCount file) ≡ passed n m f → Passed file n m f
+    go true true true sound a b c t e = record { marks = a; fits = b; lays = c; tables = t; persons = cc; links = cc; feeds = cc }
+    go true true true (fault number place) a b c t e = let z : _≡_ {A = ℕ} 0 1 = cc in absurd (omega arith)
+    go true true false t a b c i e = let z : _≡_ {A = ℕ} 0 1 = cc in absurd (omega arith)
+    go true false c t a b d i e = let z : _≡_ {A = ℕ} 0 1 = cc in absurd (omega arith)
+    go false b c t a d g i e = let z : _≡_ {A = ℕ} 0 1 = cc in absurd (omega arith)
+
+-- the same by the answer of `check`
+pub passed-said : {file : List ℕ} {answer : code.Verdict} {n m f : ℕ} → Checks file answer → answer ≡ code.the-variants.Passed n m f → Passed file n m f
+passed-said {file} checks is = passed-rules file (sym checks ∙ ap verdictSaid is)
+
+-- each of the three tables is sound
+pub record Tables (file : List ℕ) : Type 0 where
+  pub feeds : firstAmong (feedFault file) 0 (feedCount file) ≡ sound
+  pub rows : firstAmong (rowFault file) 0 (personCount file + 1) ≡ sound
+  pub links : firstAmong (ownedFault file) 0 (personCount file) ≡ sound
+
+pub tables-sound : (file : List ℕ) → tablesFault file ≡ sound → Tables file
+unfolding tablesFault
+tables-sound file e = go (firstAmong (feedFault file) 0 (feedCount file)) (firstAmong (rowFault file) 0 (personCount file + 1)) refl refl e
+  where
+    go : (a b : Fault) → firstAmong (feedFault file) 0 (feedCount file) ≡ a → firstAmong (rowFault file) 0 (personCount file + 1) ≡ b
+        → firstOf a (firstOf b (firstAmong (ownedFault file) 0 (personCount file))) ≡ sound → Tables file
+    go sound sound a b e = record { feeds = a; rows = b; links = e }
+    go sound (fault number place) a b e = let z : _≡_ {A = ℕ} 0 1 = cc in absurd (omega arith)
+    go (fault number place) b a d e = let z : _≡_ {A = ℕ} 0 1 = cc in absurd (omega arith)
+
+pub passed-rowed : {file : List ℕ} {counts : Counts} {n m f : ℕ} → Laid file counts → Passed file n m f → Rowed file counts
+passed-rowed {file} laid p = record { laid = laid; rows = tables-sound file (p .tables) .rows }
+
+-- where a row that passed lies
+pub record Lies (file : List ℕ) (counts : Counts) (person : ℕ) : Type 0 where
+  pub inside : person < counts .persons
+  pub keeps : row file person ≤ row file (person + 1)
+  pub below : row file (person + 1) ≤ counts .links
+
+pub row-lies : {file : List ℕ} {counts : Counts} {n m f person : ℕ} → Laid file counts → Passed file n m f → person < n → Lies file counts person
+row-lies {file} {counts} {person = person} laid p h =
+    let rowed = passed-rowed laid p in
+    let inside : person < counts .persons = omega (arith, laid .persons, p .persons) in
+    record { inside = inside; keeps = rows-keep rowed person inside; below = rows-below rowed (person + 1) (omega arith) }

@@ -1,0 +1,47 @@
+-- What the row table says once it has passed: the rows keep on, and none reaches past the links.
+use mathlib.Core.Path.{_≡_, refl, sym, ap, _∙_}
+use mathlib.Core.Bool.{Bool, true, false, _&&_}
+use mathlib.Core.List.{List}
+use Prim.Native.Nat.{ℕ, zero, suc, _+_, _-_, _<_, _≤_}
+use native.Mathlib.Omega.{arith}
+use borrow.Author.Tests.{leb-true, eqb-true, ne-eqb, eq-eqb}
+use Rattle.linkfile.specs.Format.{personCount, linkCount, row}
+use Rattle.linkfile.specs.Verdict.{Fault, sound, fault, unless, firstAmong}
+use Rattle.linkfile.specs.Checked.{rowStartsOrKeeps, rowEnds, rowRuled, rowFault, linkFault, ownedFault}
+use Rattle.linkfile.specs.Inside.{Laid, Rowed, Owned}
+use Rattle.linkfile.specs.declared.Counts.{Counts}
+use Rattle.linkfile.proofs.Faults.{Looking, look-starts, first-none}
+use Rattle.linkfile.proofs.Counted.{halves}
+
+-- where there is no fault the rule holds
+pub ruled : (rule : Bool) (number place : ℕ) → unless rule number place sound ≡ sound → rule ≡ true
+ruled true number place e = refl
+ruled false number place e = let z : _≡_ {A = ℕ} 0 1 = cc in absurd (omega arith)
+
+module _ {file : List ℕ} {counts : Counts} (r : Rowed file counts) where
+  row-holds : (entry : ℕ) → entry ≤ counts .persons → (rowStartsOrKeeps file entry ≡ true) × (rowEnds file entry ≡ true)
+  unfolding rowFault rowRuled
+  row-holds entry h = halves (rowStartsOrKeeps file entry) (rowEnds file entry) (ruled (rowStartsOrKeeps file entry && rowEnds file entry) 6 entry (first-none (rowFault file) 0 (personCount file + 1) entry (r .rows) (omega arith) (omega (arith, r .laid))))
+
+  pub rows-keep : (owner : ℕ) → owner < counts .persons → row file owner ≤ row file (owner + 1)
+  unfolding rowStartsOrKeeps
+  rows-keep owner h =
+      let e : owner + 1 - 1 ≡ owner = omega arith in
+      leb-true (row file owner) (row file (owner + 1)) (rw (ne-eqb (owner + 1) 0 (λ z. omega arith), e) at (row-holds (owner + 1) (omega arith) .0))
+
+  pub rows-end : row file (counts .persons) ≡ counts .links
+  unfolding rowEnds
+  rows-end =
+      eqb-true (row file (counts .persons)) (linkCount file) (rw (eq-eqb (counts .persons) (personCount file) (r .laid .persons)) at (row-holds (counts .persons) (omega arith) .1)) ∙ sym (r .laid .links)
+
+  rows-from-end : (left entry : ℕ) → entry + left ≡ counts .persons → row file entry ≤ counts .links
+  rows-from-end zero entry e = let same : entry ≡ counts .persons = omega arith in rw same (omega (arith, rows-end))
+  rows-from-end (suc left) entry e = omega (arith, rows-keep entry (omega arith), rows-from-end left (entry + 1) (omega arith))
+
+  pub rows-below : (entry : ℕ) → entry ≤ counts .persons → row file entry ≤ counts .links
+  rows-below entry h = rows-from-end (counts .persons - entry) entry (omega arith)
+
+  -- going through the links of an owner
+  pub links-start : {owner first end : ℕ} → owner < counts .persons → first ≡ row file owner → end ≡ row file (owner + 1) → Looking (linkFault file owner) (ownedFault file owner) first end
+  unfolding ownedFault
+  links-start {owner} {first} {end} h f e = rw f (look-starts (linkFault file owner) (row file owner) (row file (owner + 1) - row file owner) (omega (arith, rows-keep owner h)))
