@@ -1,0 +1,10 @@
+-- The laws that the other rooms cite.
+pub mod Members
+pub mod Way
+pub mod Listed
+pub mod Rising
+pub mod Ordered
+pub mod After
+pub mod Portions
+pub mod Barrier
+pub mod Reach

@@ -1,0 +1,116 @@
+-- Dictionary order is an order; `listing` rises in it, and is the only such list.
+use mathlib.Core.Path.{_≡_, refl, sym, subst, subst₂, _∙_}
+use mathlib.Core.Logic.{_≢_, _↔_}
+use mathlib.Core.Bool.{Bool, true, false, false≢true}
+use mathlib.Core.List.{List, [], _∷_, map, flatMap, List·Memᴰ·not-nil, List·Memᴰ·eq-of-singleton, Memᴰ·of-map}
+use Prim.Native.Nat.{ℕ, zero, suc, _<_}
+use native.Mathlib.Omega.{arith}
+use lib.Dec.{eqb, ltb}
+use borrow.Author.Tests.{eqb-true, eq-eqb, ltb-true, lt-ltb, le-ltb}
+use Rattle.ways.specs.Graph.{Graph, _∈_, pick, among}
+use Rattle.ways.specs.Chain.{Distinct, Chain}
+use Rattle.ways.specs.Order.{Before, short, less, same, before, Rising}
+use Rattle.ways.specs.Listing.{by, ways, listing}
+use Rattle.ways.proofs.Members.{flatMap-from}
+use Rattle.ways.proofs.Listed.{exact}
+use Rattle.ways.proofs.Rising.{rising-append, rising-distinct, only}
+
+-- dictionary order is an order
+pub before-trans : {a b c : List ℕ} → Before a b → Before b c → Before a c
+before-trans short (less h) = short
+before-trans short (same e r) = short
+before-trans (less {x = x} h) (less {y = z} i) = less {x = x} {y = z} (omega arith)
+before-trans (less {x = x} h) (same {y = z} e r) = less {x = x} {y = z} (omega arith)
+before-trans (same {x = x} e r) (less {y = z} h) = less {x = x} {y = z} (omega arith)
+before-trans (same e r) (same f q) = same (e ∙ f) (before-trans r q)
+
+pub before-asym : {a b : List ℕ} → Before a b → ¬ Before b a
+before-asym (less h) (less i) = omega arith
+before-asym (less h) (same e r) = omega arith
+before-asym (same e r) (less h) = omega arith
+before-asym (same e r) (same f q) = before-asym r q
+
+-- the test and the order say the same
+pub before-true : (a b : List ℕ) → before a b ≡ true → Before a b
+unfolding before
+before-true a [] e = absurd (false≢true e)
+before-true [] (y ∷ b) e = short
+before-true (x ∷ a) (y ∷ b) e = go (ltb x y) (eqb x y) refl refl e (λ h. before-true a b h)
+  where
+    go : (l m : Bool) → ltb x y ≡ l → eqb x y ≡ m → pick l true (pick m (before a b) false) ≡ true → (before a b ≡ true → Before a b) → Before (x ∷ a) (y ∷ b)
+    go true m h i e on = less (ltb-true x y h)
+    go false true h i e on = same (eqb-true x y i) (on e)
+    go false false h i e on = absurd (false≢true e)
+
+pub true-before : {a b : List ℕ} → Before a b → before a b ≡ true
+unfolding before
+true-before short = refl
+true-before (less {x = x} {y = y} h) = rw (lt-ltb x y h)
+true-before (same {x = x} {y = y} e r) = rw (le-ltb x y (omega arith), eq-eqb x y e) (true-before r)
+
+pub false-before : (a b : List ℕ) → ¬ Before a b → before a b ≡ false
+false-before a b n = go (before a b) refl
+  where
+    go : (t : Bool) → before a b ≡ t → before a b ≡ false
+    go true h = absurd (n (before-true a b h))
+    go false h = h
+
+-- a row of lists that all begin with x
+abbrev pub Heads : ℕ → List (List ℕ) → Type 0
+Heads x L = (c : List ℕ) → c ∈ L → (w : List ℕ) × (c ≡ x ∷ w)
+
+pub rising-map : (x : ℕ) (L : List (List ℕ)) → Rising Before L → Rising Before (map (_∷_ x) L)
+rising-map x [] r = tt
+rising-map x (a ∷ L) r = ((λ y m. step y (Memᴰ·of-map (_∷_ x) L m)), rising-map x L (r .1))
+  where
+    step : (y : List ℕ) → (b : List ℕ) × (b ∈ L) × (x ∷ b ≡ y) → Before (x ∷ a) y
+    step y q = subst (λ z. Before (x ∷ a) z) (q .2) (same refl (r .0 (q .0) (q .1)))
+
+pub rising-flatMap : (f : ℕ → List (List ℕ)) (row : List ℕ) → Rising _<_ row → ((x : ℕ) → Rising Before (f x)) → ((x : ℕ) → Heads x (f x)) → Rising Before (flatMap f row)
+unfolding flatMap
+rising-flatMap f [] r all heads = tt
+rising-flatMap f (x ∷ row) r all heads = rising-append Before (f x) (flatMap f row) (all x) (rising-flatMap f row (r .1) all heads) (λ a b i j. step a b i (flatMap-from f row j))
+  where
+    step : (a b : List ℕ) → a ∈ f x → (y : ℕ) × (y ∈ row) × (b ∈ f y) → Before a b
+    step a b i q =
+        let u = heads x a i in
+        let v = heads (q .0) b (q .2) in
+        subst₂ Before (sym (u .1)) (sym (v .1)) (less (r .0 (q .0) (q .1)))
+
+-- `by`: all begin with v, and rise
+pub by-heads : (t : ℕ) (seen : List ℕ) (on : List ℕ → ℕ → List (List ℕ)) (v : ℕ) → Heads v (by t seen on v)
+unfolding by
+by-heads t seen on v c m = go (eqb v t) (among v seen) m
+  where
+    go : (l n : Bool) → c ∈ pick l ((v ∷ []) ∷ []) (pick n [] (map (_∷_ v) (on (v ∷ seen) v))) → (w : List ℕ) × (c ≡ v ∷ w)
+    go true n m = ([], List·Memᴰ·eq-of-singleton m)
+    go false true m = absurd (List·Memᴰ·not-nil m)
+    go false false m = let r = Memᴰ·of-map (_∷_ v) (on (v ∷ seen) v) m in (r .0, sym (r .2))
+
+pub by-rising : (t : ℕ) (seen : List ℕ) (on : List ℕ → ℕ → List (List ℕ)) (v : ℕ) → Rising Before (on (v ∷ seen) v) → Rising Before (by t seen on v)
+unfolding by
+by-rising t seen on v r = go (eqb v t) (among v seen)
+  where
+    go : (l n : Bool) → Rising Before (pick l ((v ∷ []) ∷ []) (pick n [] (map (_∷_ v) (on (v ∷ seen) v))))
+    go true n = ((λ y m. absurd (List·Memᴰ·not-nil m)), tt)
+    go false true = tt
+    go false false = rising-map v (on (v ∷ seen) v) r
+
+module _ (g : Graph) (rows : (p : ℕ) → Rising _<_ (g p)) where
+  pub ways-rising : (t k : ℕ) (seen : List ℕ) (p : ℕ) → Rising Before (ways g t k seen p)
+  unfolding ways
+  ways-rising t zero seen p = tt
+  ways-rising t (suc k) seen p = rising-flatMap _ (g p) (rows p) (λ v. by-rising t seen (ways g t k) v (ways-rising t k (v ∷ seen) v)) (by-heads t seen (ways g t k))
+
+  -- the theorem: the listing rises
+  pub ordered : (s t k : ℕ) → Rising Before (listing g s t k)
+  unfolding listing
+  ordered s t k = rising-map s (ways g t k (s ∷ []) s) (ways-rising t k (s ∷ []) s)
+
+  -- so each chain stands there once
+  pub once-each : (s t k : ℕ) → Distinct (listing g s t k)
+  once-each s t k = rising-distinct Before (λ a b. before-asym) (listing g s t k) (ordered s t k)
+
+  -- every chain, nothing else, in dictionary order: there is one such list
+  pub determined : (s t k : ℕ) → s ≢ t → (L : List (List ℕ)) → Rising Before L → ((c : List ℕ) → c ∈ L ↔ Chain g s t k c) → L ≡ listing g s t k
+  determined s t k ne L r h = only Before (λ a b. before-asym) L (listing g s t k) r (ordered s t k) (λ c m. exact g s t k ne c .1 (h c .0 m)) (λ c m. h c .1 (exact g s t k ne c .0 m))

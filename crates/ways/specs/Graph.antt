@@ -1,0 +1,24 @@
+-- Persons and the links between them. Definitions only.
+use mathlib.Core.Bool.{Bool, true, false}
+use mathlib.Core.List.{List, [], _∷_, List·Memᴰ}
+use Prim.Native.Nat.{ℕ}
+use lib.Dec.{eqb}
+
+-- "each next one reached by an admitted link": the persons that a person's admitted links lead to
+abbrev pub Graph : Type 0
+Graph = ℕ → List ℕ
+
+infix 50 _∈_
+-- x stands in l
+abbrev pub _∈_ {ℓ} : {A : Type ℓ} → A → List A → Type ℓ
+x ∈ l = List·Memᴰ x l
+
+-- the one where the test holds, else the other
+abbrev pub pick {ℓ} : {A : Type ℓ} → Bool → A → A → A
+pick true a b = a
+pick false a b = b
+
+-- whether p is among the persons
+unfoldable pub among : ℕ → List ℕ → Bool
+among p [] = false
+among p (q ∷ qs) = pick (eqb p q) true (among p qs)

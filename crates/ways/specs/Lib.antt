@@ -1,0 +1,7 @@
+-- What the rooms of the product speak of: definitions only.
+pub mod Graph
+pub mod Chain
+pub mod Order
+pub mod Listing
+pub mod Portions
+pub mod Fewest
