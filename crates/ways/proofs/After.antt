@@ -1,8 +1,8 @@
 -- What follows a bookmark: through the rows of the graph, and in the listing.
 use mathlib.Core.Path.{_≡_, refl, sym, ap, subst, _∙_}
-use mathlib.Core.Logic.{_≢_}
-use mathlib.Core.Bool.{Bool, true, false}
-use mathlib.Core.List.{List, [], _∷_, _++_, map, flatMap, List·Memᴰ·head, List·Memᴰ·tail}
+use mathlib.Core.Logic.{_≢_, _⊎_, inl, inr}
+use mathlib.Core.Bool.{Bool, true, false, true≢false}
+use mathlib.Core.List.{List, [], _∷_, _++_, map, flatMap, List·Memᴰ·head, List·Memᴰ·tail, List·Memᴰ·not-nil}
 use Prim.Native.Nat.{ℕ, suc, _<_}
 use native.Mathlib.Omega.{arith}
 use borrow.Author.Tests.{eq-eqb, ne-eqb, le-ltb}
@@ -12,7 +12,7 @@ use Rattle.ways.specs.Listing.{by, ways, listing}
 use Rattle.ways.specs.Portions.{after}
 use Rattle.ways.proofs.Members.{flatMap-from, out-among, flatMap-append, mem-split}
 use Rattle.ways.proofs.Rising.{rising-below, rising-above}
-use Rattle.ways.proofs.Ordered.{before-asym, true-before, false-before, Heads, by-heads}
+use Rattle.ways.proofs.Ordered.{before-trans, before-asym, before-true, true-before, false-before, Heads, by-heads}
 
 -- all of L, or none
 pub after-all : (b : List ℕ) (L : List (List ℕ)) → ((c : List ℕ) → c ∈ L → Before b c) → after b L ≡ L
@@ -33,6 +33,51 @@ after-append b (c ∷ L) M = go (before b c) (after-append b L M)
     go : (t : Bool) → after b (L ++ M) ≡ after b L ++ after b M → pick t (c ∷ after b (L ++ M)) (after b (L ++ M)) ≡ pick t (c ∷ after b L) (after b L) ++ after b M
     go true e = ap (_∷_ c) e
     go false e = e
+
+-- just those of L that stand after b
+pub after-from : (b : List ℕ) (L : List (List ℕ)) {c : List ℕ} → c ∈ after b L → (c ∈ L) × Before b c
+unfolding after
+after-from b [] m = absurd (List·Memᴰ·not-nil m)
+after-from b (d ∷ L) {c} m = go (before b d) refl m (λ i. after-from b L i)
+  where
+    go : (t : Bool) → before b d ≡ t → c ∈ pick t (d ∷ after b L) (after b L) → (c ∈ after b L → (c ∈ L) × Before b c) → (c ∈ d ∷ L) × Before b c
+    go true e (List·Memᴰ·head h) on = (List·Memᴰ·head h, subst (λ x. Before b x) (sym h) (before-true b d e))
+    go true e (List·Memᴰ·tail i) on = let r = on i in (List·Memᴰ·tail (r .0), r .1)
+    go false e i on = let r = on i in (List·Memᴰ·tail (r .0), r .1)
+
+pub after-in : {b c : List ℕ} {L : List (List ℕ)} → c ∈ L → Before b c → c ∈ after b L
+unfolding after
+after-in {b} {c} (List·Memᴰ·head {xs = L} h) r = rw (true-before (subst (λ x. Before b x) h r)) (List·Memᴰ·head h)
+after-in {b} {c} (List·Memᴰ·tail {x = d} {xs = L} m) r = go (before b d) (after-in m r)
+  where
+    go : (t : Bool) → c ∈ after b L → c ∈ pick t (d ∷ after b L) (after b L)
+    go true i = List·Memᴰ·tail i
+    go false i = i
+
+pub after-rising : (b : List ℕ) (L : List (List ℕ)) → Rising Before L → Rising Before (after b L)
+unfolding after
+after-rising b [] r = tt
+after-rising b (d ∷ L) r = go (before b d) (after-rising b L (r .1))
+  where
+    go : (t : Bool) → Rising Before (after b L) → Rising Before (pick t (d ∷ after b L) (after b L))
+    go true q = ((λ c m. r .0 c (after-from b L m .0)), q)
+    go false q = q
+
+-- what stands after d stands after b, which does not stand later
+pub after-after : (b d : List ℕ) (L : List (List ℕ)) → (d ≡ b) ⊎ Before b d → after d (after b L) ≡ after d L
+unfolding after
+after-after b d [] h = refl
+after-after b d (c ∷ L) h = go (before b c) (before d c) refl refl (after-after b d L h)
+  where
+    no : before b c ≡ false → before d c ≡ true → (d ≡ b) ⊎ Before b d → ⊥
+    no e f (inl q) = true≢false (sym f ∙ ap (λ x. before x c) q ∙ e)
+    no e f (inr q) = true≢false (sym (true-before (before-trans q (before-true d c f))) ∙ e)
+
+    go : (t u : Bool) → before b c ≡ t → before d c ≡ u → after d (after b L) ≡ after d L → after d (pick t (c ∷ after b L) (after b L)) ≡ pick u (c ∷ after d L) (after d L)
+    go true true e f i = rw f (ap (_∷_ c) i)
+    go true false e f i = rw f i
+    go false true e f i = absurd (no e f h)
+    go false false e f i = i
 
 -- the test looks past a common head
 pub before-same : (x : ℕ) (a b : List ℕ) → before (x ∷ a) (x ∷ b) ≡ before a b

@@ -1,19 +1,20 @@
--- Portions laid end to end give the list back; the listing is one instance.
+-- Portions laid end to end give the list back, from the start or from any bookmark; the listing is one instance.
 use mathlib.Core.Path.{_≡_, refl, sym, ap, subst, _∙_}
 use mathlib.Core.Logic.{_↔_, _⊎_, inl, inr}
-use mathlib.Core.List.{List, [], _∷_, _++_, append-nil, cons≢nil, List·Memᴰ·head, List·Memᴰ·tail, Memᴰ·of-map}
-use Prim.Native.Nat.{ℕ, zero, suc, _+_, _≤_, _<_}
+use mathlib.Core.Bool.{true}
+use mathlib.Core.List.{List, [], _∷_, _++_, append-nil, cons≢nil, List·Memᴰ·head, List·Memᴰ·tail, List·Memᴰ·not-nil, Memᴰ·of-map}
+use Prim.Native.Nat.{ℕ, zero, suc, _≤_, _<_}
 use native.Mathlib.Omega.{arith}
-use native.Mathlib.Nat.{zero-add}
 use lib.ListN.{length, take, drop, length-take, length-drop, take-append-drop, drop-of-length-le}
 use lib.Seq.{take-add, drop-drop}
+use borrow.Author.Tests.{leb-true, le-leb}
 use Rattle.ways.specs.Graph.{Graph, _∈_}
 use Rattle.ways.specs.Order.{Before, short, Rising}
 use Rattle.ways.specs.Listing.{ways, listing}
-use Rattle.ways.specs.Portions.{after, portion, lastOr, laid, total, left}
+use Rattle.ways.specs.Portions.{after, portion, endedAfter, lastOr, laid, total, left}
 use Rattle.ways.proofs.Members.{take-in}
 use Rattle.ways.proofs.Ordered.{before-asym, false-before, ordered}
-use Rattle.ways.proofs.After.{after-all}
+use Rattle.ways.proofs.After.{after-all, after-none, after-from, after-in, after-rising, after-after, after-part}
 
 module _ {A : Type 0} where
   pub lastOr-append : (b : A) (l m : List A) → lastOr b (l ++ m) ≡ lastOr (lastOr b l) m
@@ -39,56 +40,62 @@ after-last b (suc r) (c ∷ L) q h = rw (false-before (lastOr c (take r L)) c (n
     no (inl e) i = before-asym (subst (λ d. Before d c) e i) (subst (λ d. Before d c) e i)
     no (inr m) i = before-asym (q .0 (lastOr c (take r L)) (take-in r L m)) i
 
--- the bookmark after n chains of L
-pub mark : List (List ℕ) → ℕ → List ℕ
-mark L n = lastOr [] (take n L)
-
--- a list that rises and holds no empty chain, as the listings
-module _ (L : List (List ℕ)) (rises : Rising Before L) (real : (c : List ℕ) → c ∈ L → Before [] c) where
-  pub after-mark : (n : ℕ) → after (mark L n) L ≡ drop n L
-  unfolding mark
-  after-mark n = after-last [] n L rises real
-
-  pub next : (n r : ℕ) → lastOr (mark L n) (take r (drop n L)) ≡ mark L (n + r)
-  unfolding mark
-  next n r = rw (take-add n r L, lastOr-append)
-
-  laid-from : (n : ℕ) (rooms : List ℕ) → laid rooms (mark L n) L ≡ take (total rooms) (drop n L)
-  laid-from n [] = refl
-  laid-from n (r ∷ rooms) = rw (after-mark n, next n r, laid-from (n + r) rooms, take-add r (total rooms) (drop n L), drop-drop)
-
-  left-from : (n : ℕ) (rooms : List ℕ) → left rooms (mark L n) L ≡ mark L (n + total rooms)
-  left-from n [] = ap (mark L) (omega arith)
-  left-from n (r ∷ rooms) = rw (after-mark n, next n r, left-from (n + r) rooms) (ap (mark L) (omega arith))
-
-  -- portions laid end to end are the beginning of the list, as long as the rooms together
-  pub laid-all : (rooms : List ℕ) → laid rooms [] L ≡ take (total rooms) L
-  unfolding mark
-  laid-all rooms = laid-from 0 rooms
-
-  -- and what stands after the bookmark that is left is the rest
-  pub left-all : (rooms : List ℕ) → after (left rooms [] L) L ≡ drop (total rooms) L
-  unfolding mark
-  left-all rooms = ap (λ b. after b L) (left-from 0 rooms ∙ ap (mark L) (zero-add (total rooms))) ∙ after-mark (total rooms)
-
-  -- nothing stands after the bookmark that is left just where the whole list has been handed over
-  pub ended : (rooms : List ℕ) → (after (left rooms [] L) L ≡ []) ↔ (laid rooms [] L ≡ L)
-  ended rooms = (λ e. laid-all rooms ∙ whole (total rooms) (sym (left-all rooms) ∙ e), λ e. left-all rooms ∙ over (total rooms) (sym (laid-all rooms) ∙ e))
+-- any list that rises strictly, and any bookmark: a chain that was handed over, any other chain of the list, or the start
+module _ (L : List (List ℕ)) (rises : Rising Before L) where
+  -- what follows a portion
+  pub after-portion : (b : List ℕ) (r : ℕ) → after (lastOr b (portion r b L)) L ≡ drop r (after b L)
+  after-portion b r = sym (after-after b (lastOr b (portion r b L)) L (step (lastOr-cases b (portion r b L)))) ∙ after-last b r (after b L) (after-rising b L rises) (λ c m. after-from b L m .1)
     where
-      whole : (n : ℕ) → drop n L ≡ [] → take n L ≡ L
-      whole n e = sym (append-nil (take n L)) ∙ rw e at (take-append-drop n L)
+      step : (lastOr b (portion r b L) ≡ b) ⊎ (lastOr b (portion r b L) ∈ portion r b L) → (lastOr b (portion r b L) ≡ b) ⊎ Before b (lastOr b (portion r b L))
+      step (inl e) = inl e
+      step (inr m) = inr (after-from b L (take-in r (after b L) m) .1)
 
-      over : (n : ℕ) → take n L ≡ L → drop n L ≡ []
-      over n e = let h : length L ≤ n = omega (arith, simp length-take at (ap length e)) in drop-of-length-le L h
+  -- portions laid end to end are the first chains after the bookmark, as many as the rooms add up to, or all
+  pub laid-after : (b : List ℕ) (rooms : List ℕ) → laid rooms b L ≡ take (total rooms) (after b L)
+  laid-after b [] = refl
+  laid-after b (r ∷ rooms) = rw (laid-after (lastOr b (portion r b L)) rooms, after-portion b r, take-add r (total rooms) (after b L))
 
-  -- of one portion: nothing follows just where its room was enough
-  pub ended-portion : (n r : ℕ) → (after (lastOr (mark L n) (portion r (mark L n) L)) L ≡ []) ↔ (length L ≤ n + r)
-  ended-portion n r = rw (after-mark n, next n r, after-mark (n + r)) (to, drop-of-length-le L)
+  -- and what follows the last chain handed over is the rest
+  pub left-after : (b : List ℕ) (rooms : List ℕ) → after (left rooms b L) L ≡ drop (total rooms) (after b L)
+  left-after b [] = refl
+  left-after b (r ∷ rooms) = rw (left-after (lastOr b (portion r b L)) rooms, after-portion b r, drop-drop)
+
+  -- nothing follows just where all has been handed over
+  pub ended-after : (b : List ℕ) (rooms : List ℕ) → (after (left rooms b L) L ≡ []) ↔ (laid rooms b L ≡ after b L)
+  ended-after b rooms = (λ e. laid-after b rooms ∙ whole (total rooms) (after b L) (sym (left-after b rooms) ∙ e), λ e. left-after b rooms ∙ over (total rooms) (after b L) (sym (laid-after b rooms) ∙ e))
     where
-      to : drop (n + r) L ≡ [] → length L ≤ n + r
-      to e = omega (arith, simp length-drop at (ap length e))
+      whole : (n : ℕ) (M : List (List ℕ)) → drop n M ≡ [] → take n M ≡ M
+      whole n M e = sym (append-nil (take n M)) ∙ rw e at (take-append-drop n M)
 
--- with room for one, a portion is empty only where nothing stands after the bookmark
+      over : (n : ℕ) (M : List (List ℕ)) → take n M ≡ M → drop n M ≡ []
+      over n M e = let h : length M ≤ n = omega (arith, simp length-take at (ap length e)) in drop-of-length-le M h
+
+  -- ended exactly if no chain of the list follows the last one handed over
+  pub ended-iff : (r : ℕ) (b : List ℕ) → (endedAfter r b L ≡ true) ↔ (after (lastOr b (portion r b L)) L ≡ [])
+  ended-iff r b = (λ e. after-portion b r ∙ drop-of-length-le (after b L) (leb-true (length (after b L)) r e), λ e. le-leb (length (after b L)) r (few (sym (after-portion b r) ∙ e)))
+    where
+      few : drop r (after b L) ≡ [] → length (after b L) ≤ r
+      few e = omega (arith, simp length-drop at (ap length e))
+
+  pub ended-none : (r : ℕ) (b : List ℕ) → (endedAfter r b L ≡ true) ↔ ((c : List ℕ) → c ∈ L → ¬ Before (lastOr b (portion r b L)) c)
+  ended-none r b = (λ e c m h. List·Memᴰ·not-nil (subst (λ M. c ∈ M) (ended-iff r b .0 e) (after-in m h)), λ n. ended-iff r b .1 (after-none (lastOr b (portion r b L)) L n))
+
+  -- from the start of a list with no empty chain
+  module _ (real : (c : List ℕ) → c ∈ L → Before [] c) where
+    pub laid-all : (rooms : List ℕ) → laid rooms [] L ≡ take (total rooms) L
+    laid-all rooms = laid-after [] rooms ∙ ap (take (total rooms)) (after-all [] L real)
+
+    pub left-all : (rooms : List ℕ) → after (left rooms [] L) L ≡ drop (total rooms) L
+    left-all rooms = left-after [] rooms ∙ ap (drop (total rooms)) (after-all [] L real)
+
+    pub ended-all : (rooms : List ℕ) → (after (left rooms [] L) L ≡ []) ↔ (laid rooms [] L ≡ L)
+    ended-all rooms = rw (after-all [] L real) at (ended-after [] rooms)
+
+  -- from a chain of the list that nobody need have handed out: the list is what comes up to and with it, and then the portions
+  pub laid-from : (b : List ℕ) → b ∈ L → (lo : List (List ℕ)) × (L ≡ lo ++ b ∷ after b L) × ((rooms : List ℕ) → laid rooms b L ≡ take (total rooms) (after b L))
+  laid-from b m = let q = after-part b L rises m in (q .0, q .1, laid-after b)
+
+-- with room for one, a portion is empty only where nothing is left
 pub portion-empty : (r : ℕ) (b : List ℕ) (L : List (List ℕ)) → 1 ≤ r → portion r b L ≡ [] → after b L ≡ []
 portion-empty r b L h e = go r (after b L) h e
   where
@@ -106,8 +113,8 @@ module _ (g : Graph) (rows : (p : ℕ) → Rising _<_ (g p)) (s t k : ℕ) where
   pub portions : (rooms : List ℕ) → laid rooms [] (listing g s t k) ≡ take (total rooms) (listing g s t k)
   portions = laid-all (listing g s t k) (ordered g rows s t k) real-chains
 
-  pub portions-ended : (rooms : List ℕ) → (after (left rooms [] (listing g s t k)) (listing g s t k) ≡ []) ↔ (laid rooms [] (listing g s t k) ≡ listing g s t k)
-  portions-ended = ended (listing g s t k) (ordered g rows s t k) real-chains
-
   pub portions-rest : (rooms : List ℕ) → after (left rooms [] (listing g s t k)) (listing g s t k) ≡ drop (total rooms) (listing g s t k)
   portions-rest = left-all (listing g s t k) (ordered g rows s t k) real-chains
+
+  pub portions-ended : (rooms : List ℕ) → (after (left rooms [] (listing g s t k)) (listing g s t k) ≡ []) ↔ (laid rooms [] (listing g s t k) ≡ listing g s t k)
+  portions-ended = ended-all (listing g s t k) (ordered g rows s t k) real-chains
