@@ -8,3 +8,4 @@ pub mod After
 pub mod Portions
 pub mod Barrier
 pub mod Reach
+pub mod Records

@@ -4,4 +4,5 @@ pub mod Chain
 pub mod Order
 pub mod Listing
 pub mod Portions
+pub mod Records
 pub mod Fewest
