@@ -2,16 +2,18 @@
 use mathlib.Core.Path.{_≡_, refl, sym, ap, subst, _∙_, fun-ext}
 use mathlib.Core.Logic.{_≢_, _⊎_, inl, inr}
 use mathlib.Core.Bool.{Bool, true, false}
-use mathlib.Core.List.{List, [], _∷_, flatMap, List·Memᴰ·head, List·Memᴰ·tail, List·Memᴰ·cases-cons, List·Memᴰ·eq-of-singleton}
+use mathlib.Core.List.{List, [], _∷_, _++_, flatMap, List·Memᴰ·head, List·Memᴰ·tail, List·Memᴰ·cases-cons, List·Memᴰ·eq-of-singleton}
 use Prim.Native.Nat.{ℕ, zero, suc, _≤_, _<_}
 use native.Mathlib.Omega.{arith}
 use native.Mathlib.Nat.{le-refl}
 use native.Mathlib.Decide.{ℕ-discrete}
-use borrow.Author.Tests.{ne-eqb}
+use borrow.Author.Tests.{eq-eqb, ne-eqb}
 use Rattle.ways.specs.Graph.{Graph, _∈_, pick, among}
+use Rattle.ways.specs.Order.{Rising}
 use Rattle.ways.specs.Listing.{by, ways}
-use Rattle.ways.proofs.Members.{among-true, mem-among, among-false, out-among, out, Within, within-cons, swap}
+use Rattle.ways.proofs.Members.{among-true, mem-among, among-false, out-among, out, Within, within-cons, swap, flatMap-append, mem-split}
 use Rattle.ways.proofs.Way.{Way, ends, goes, no-way, none}
+use Rattle.ways.proofs.Rising.{rising-below, rising-above}
 
 -- more hops and fewer seen: a way stays one
 pub way-more : {g : Graph} {t j k p : ℕ} {seen fewer w : List ℕ} → j ≤ k → Within fewer seen → Way g t j seen p w → Way g t k fewer p w
@@ -100,3 +102,21 @@ by-none t v seen on n e = rw (ne-eqb v t n, e) (go (among v seen))
     go : (c : Bool) → _≡_ {A = List (List ℕ)} (pick c [] []) []
     go true = refl
     go false = refl
+
+-- with one hop left there is t, where t is next, and nothing else
+module _ (g : Graph) (t : ℕ) (seen : List ℕ) where
+  last-none : (row : List ℕ) → ¬ (t ∈ row) → flatMap (by t seen (ways g t 0)) row ≡ []
+  unfolding flatMap ways
+  last-none [] o = refl
+  last-none (v ∷ row) o = rw (by-none t v seen (ways g t 0) (λ e. o (List·Memᴰ·head (sym e))) refl, last-none row (λ m. o (List·Memᴰ·tail m)))
+
+  pub last-hop-none : (p : ℕ) → ¬ (t ∈ g p) → ways g t 1 seen p ≡ []
+  unfolding ways
+  last-hop-none p o = last-none (g p) o
+
+  pub last-hop : (p : ℕ) → Rising _<_ (g p) → t ∈ g p → ways g t 1 seen p ≡ (t ∷ []) ∷ []
+  unfolding ways flatMap by
+  last-hop p r m = let q = mem-split m in go (q .0) (q .1) (q .2) (subst (Rising _<_) (q .2) r)
+    where
+      go : (lo hi : List ℕ) → g p ≡ lo ++ t ∷ hi → Rising _<_ (lo ++ t ∷ hi) → flatMap (by t seen (ways g t 0)) (g p) ≡ (t ∷ []) ∷ []
+      go lo hi e r = rw (e, flatMap-append (by t seen (ways g t 0)) lo (t ∷ hi), last-none lo (λ i. absurd (omega (arith, rising-below _<_ hi i r))), last-none hi (λ i. absurd (omega (arith, rising-above _<_ t lo hi r t i))), eq-eqb t t refl)

@@ -1,5 +1,6 @@
 -- The laws that the other rooms cite.
 pub mod Members
+pub mod Cut
 pub mod Way
 pub mod Listed
 pub mod Rising
@@ -8,4 +9,5 @@ pub mod After
 pub mod Portions
 pub mod Barrier
 pub mod Reach
+pub mod Fewest
 pub mod Records
