@@ -2,16 +2,16 @@
 use mathlib.Core.Path.{_≡_, refl, sym, ap, subst, _∙_}
 use mathlib.Core.Logic.{_≢_, _⊎_, inl, inr}
 use mathlib.Core.Bool.{Bool, true, false, true≢false}
-use mathlib.Core.List.{List, [], _∷_, _++_, map, flatMap, List·Memᴰ·head, List·Memᴰ·tail, List·Memᴰ·not-nil}
+use mathlib.Core.List.{List, [], _∷_, _++_, map, flatMap, List·Memᴰ·head, List·Memᴰ·tail}
 use Prim.Native.Nat.{ℕ, suc, _<_}
 use native.Mathlib.Omega.{arith}
 use borrow.Author.Tests.{eq-eqb, ne-eqb, le-ltb}
-use Rattle.ways.specs.Graph.{Graph, _∈_, pick}
+use Rattle.ways.specs.Graph.{Graph, _∈_, pick, keep}
 use Rattle.ways.specs.Order.{Before, less, same, before, Rising}
 use Rattle.ways.specs.Listing.{by, ways, listing}
 use Rattle.ways.specs.Portions.{after}
-use Rattle.ways.proofs.Members.{flatMap-from, out-among, flatMap-append, mem-split}
-use Rattle.ways.proofs.Rising.{rising-below, rising-above}
+use Rattle.ways.proofs.Members.{flatMap-from, out-among, flatMap-append, mem-split, keep-from, keep-in, keep-append}
+use Rattle.ways.proofs.Rising.{rising-below, rising-above, rising-keep}
 use Rattle.ways.proofs.Ordered.{before-trans, before-asym, before-true, true-before, false-before, Heads, by-heads}
 
 -- all of L, or none
@@ -25,43 +25,23 @@ unfolding after
 after-none b [] h = refl
 after-none b (c ∷ L) h = rw (false-before b c (h c (List·Memᴰ·head refl))) (after-none b L (λ d m. h d (List·Memᴰ·tail m)))
 
-pub after-append : (b : List ℕ) (L M : List (List ℕ)) → after b (L ++ M) ≡ after b L ++ after b M
-unfolding after
-after-append b [] M = refl
-after-append b (c ∷ L) M = go (before b c) (after-append b L M)
-  where
-    go : (t : Bool) → after b (L ++ M) ≡ after b L ++ after b M → pick t (c ∷ after b (L ++ M)) (after b (L ++ M)) ≡ pick t (c ∷ after b L) (after b L) ++ after b M
-    go true e = ap (_∷_ c) e
-    go false e = e
+-- those that pass the test `before b`
+after-keep : (b : List ℕ) (L : List (List ℕ)) → after b L ≡ keep (before b) L
+unfolding after keep
+after-keep b [] = refl
+after-keep b (c ∷ L) = rw (after-keep b L)
 
--- just those of L that stand after b
+pub after-append : (b : List ℕ) (L M : List (List ℕ)) → after b (L ++ M) ≡ after b L ++ after b M
+after-append b L M = rw (after-keep b (L ++ M), after-keep b L, after-keep b M) (keep-append (before b) L M)
+
 pub after-from : (b : List ℕ) (L : List (List ℕ)) {c : List ℕ} → c ∈ after b L → (c ∈ L) × Before b c
-unfolding after
-after-from b [] m = absurd (List·Memᴰ·not-nil m)
-after-from b (d ∷ L) {c} m = go (before b d) refl m (λ i. after-from b L i)
-  where
-    go : (t : Bool) → before b d ≡ t → c ∈ pick t (d ∷ after b L) (after b L) → (c ∈ after b L → (c ∈ L) × Before b c) → (c ∈ d ∷ L) × Before b c
-    go true e (List·Memᴰ·head h) on = (List·Memᴰ·head h, subst (λ x. Before b x) (sym h) (before-true b d e))
-    go true e (List·Memᴰ·tail i) on = let r = on i in (List·Memᴰ·tail (r .0), r .1)
-    go false e i on = let r = on i in (List·Memᴰ·tail (r .0), r .1)
+after-from b L {c} m = let r = keep-from (before b) L (rw (after-keep b L) at m) in (r .0, before-true b c (r .1))
 
 pub after-in : {b c : List ℕ} {L : List (List ℕ)} → c ∈ L → Before b c → c ∈ after b L
-unfolding after
-after-in {b} {c} (List·Memᴰ·head {xs = L} h) r = rw (true-before (subst (λ x. Before b x) h r)) (List·Memᴰ·head h)
-after-in {b} {c} (List·Memᴰ·tail {x = d} {xs = L} m) r = go (before b d) (after-in m r)
-  where
-    go : (t : Bool) → c ∈ after b L → c ∈ pick t (d ∷ after b L) (after b L)
-    go true i = List·Memᴰ·tail i
-    go false i = i
+after-in {b} {c} {L} m r = rw (after-keep b L) (keep-in (before b) m (true-before r))
 
 pub after-rising : (b : List ℕ) (L : List (List ℕ)) → Rising Before L → Rising Before (after b L)
-unfolding after
-after-rising b [] r = tt
-after-rising b (d ∷ L) r = go (before b d) (after-rising b L (r .1))
-  where
-    go : (t : Bool) → Rising Before (after b L) → Rising Before (pick t (d ∷ after b L) (after b L))
-    go true q = ((λ c m. r .0 c (after-from b L m .0)), q)
-    go false q = q
+after-rising b L r = rw (after-keep b L) (rising-keep Before (before b) L r)
 
 -- what stands after d stands after b, which does not stand later
 pub after-after : (b d : List ℕ) (L : List (List ℕ)) → (d ≡ b) ⊎ Before b d → after d (after b L) ≡ after d L

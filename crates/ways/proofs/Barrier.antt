@@ -7,6 +7,7 @@ use Prim.Native.Nat.{ℕ, zero, suc, _≤_, _<_}
 use native.Mathlib.Omega.{arith}
 use native.Mathlib.Nat.{le-refl}
 use native.Mathlib.Decide.{ℕ-discrete}
+use lib.ListN.{length}
 use borrow.Author.Tests.{eq-eqb, ne-eqb}
 use Rattle.ways.specs.Graph.{Graph, _∈_, pick, among}
 use Rattle.ways.specs.Order.{Rising}
@@ -21,6 +22,13 @@ way-more {k = zero} h i (ends m e) = absurd (omega arith)
 way-more {k = suc k} h i (ends m e) = ends m e
 way-more {k = zero} h i (goes m n o r) = absurd (omega arith)
 way-more {k = suc k} h i (goes {k = j} {v = v} m n o r) = let l : j ≤ k = omega arith in goes m n (λ q. o (i v q)) (way-more l (within-cons v i) r)
+
+-- a way is one within as many hops as it has
+pub way-cut : {g : Graph} {t j k p : ℕ} {seen w : List ℕ} → Way g t k seen p w → length w ≤ j → Way g t j seen p w
+way-cut {j = zero} (ends m e) l = absurd (omega arith)
+way-cut {j = suc j} (ends m e) l = ends m e
+way-cut {j = zero} (goes m n o r) l = absurd (omega arith)
+way-cut {j = suc j} (goes {w = w} m n o r) l = let i : length w ≤ j = omega arith in goes m n o (way-cut r i)
 
 -- no way within more hops and fewer seen, none within fewer hops and more seen
 pub none-more : (g : Graph) (t j k p : ℕ) (seen fewer : List ℕ) → j ≤ k → Within fewer seen → ways g t k fewer p ≡ [] → ways g t j seen p ≡ []

@@ -11,3 +11,6 @@ pub mod Barrier
 pub mod Reach
 pub mod Fewest
 pub mod Records
+pub mod ByHops
+pub mod Halves
+pub mod Join

@@ -7,7 +7,7 @@ use Prim.Native.Nat.{ℕ, zero, suc}
 use lib.ListN.{take}
 use lib.Dec.{eqb}
 use borrow.Author.Tests.{eqb-true, eq-eqb}
-use Rattle.ways.specs.Graph.{_∈_, pick, among}
+use Rattle.ways.specs.Graph.{_∈_, pick, among, keep}
 
 -- membership in a flatMap
 module _ {A B : Type 0} where
@@ -92,3 +92,33 @@ take-in (suc r) (y ∷ l) {x} m = step (λ i. take-in r l i) (List·Memᴰ·case
 pub mem-split : {A : Type 0} {x : A} {l : List A} → x ∈ l → (lo : List A) × (hi : List A) × (l ≡ lo ++ x ∷ hi)
 mem-split (List·Memᴰ·head {xs = l} e) = ([], l, ap (λ y. y ∷ l) (sym e))
 mem-split (List·Memᴰ·tail {x = y} m) = let r = mem-split m in (y ∷ r .0, r .1, ap (_∷_ y) (r .2))
+
+-- those that pass a test
+module _ {A : Type 0} (f : A → Bool) where
+  pub keep-from : (l : List A) {x : A} → x ∈ keep f l → (x ∈ l) × (f x ≡ true)
+  unfolding keep
+  keep-from [] m = absurd (List·Memᴰ·not-nil m)
+  keep-from (y ∷ l) {x} m = go (f y) refl m (λ i. keep-from l i)
+    where
+      go : (t : Bool) → f y ≡ t → x ∈ pick t (y ∷ keep f l) (keep f l) → (x ∈ keep f l → (x ∈ l) × (f x ≡ true)) → (x ∈ y ∷ l) × (f x ≡ true)
+      go true e (List·Memᴰ·head h) on = (List·Memᴰ·head h, ap f h ∙ e)
+      go true e (List·Memᴰ·tail i) on = let r = on i in (List·Memᴰ·tail (r .0), r .1)
+      go false e i on = let r = on i in (List·Memᴰ·tail (r .0), r .1)
+
+  pub keep-in : {x : A} {l : List A} → x ∈ l → f x ≡ true → x ∈ keep f l
+  unfolding keep
+  keep-in (List·Memᴰ·head h) e = rw (ap f (sym h) ∙ e) (List·Memᴰ·head h)
+  keep-in {x} (List·Memᴰ·tail {x = y} {xs = l} m) e = go (f y) (keep-in m e)
+    where
+      go : (t : Bool) → x ∈ keep f l → x ∈ pick t (y ∷ keep f l) (keep f l)
+      go true i = List·Memᴰ·tail i
+      go false i = i
+
+  pub keep-append : (l m : List A) → keep f (l ++ m) ≡ keep f l ++ keep f m
+  unfolding keep
+  keep-append [] m = refl
+  keep-append (x ∷ l) m = go (f x) (keep-append l m)
+    where
+      go : (t : Bool) → keep f (l ++ m) ≡ keep f l ++ keep f m → pick t (x ∷ keep f (l ++ m)) (keep f (l ++ m)) ≡ pick t (x ∷ keep f l) (keep f l) ++ keep f m
+      go true e = ap (_∷_ x) e
+      go false e = e

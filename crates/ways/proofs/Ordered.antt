@@ -1,5 +1,5 @@
 -- Dictionary order is an order; `listing` rises in it, and is the only such list.
-use mathlib.Core.Path.{_≡_, refl, sym, subst, subst₂, _∙_}
+use mathlib.Core.Path.{_≡_, refl, sym, subst₂, _∙_}
 use mathlib.Core.Logic.{_≢_, _↔_}
 use mathlib.Core.Bool.{Bool, true, false, false≢true}
 use mathlib.Core.List.{List, [], _∷_, map, flatMap, List·Memᴰ·not-nil, List·Memᴰ·eq-of-singleton, Memᴰ·of-map}
@@ -11,9 +11,8 @@ use Rattle.ways.specs.Graph.{Graph, _∈_, pick, among}
 use Rattle.ways.specs.Chain.{Distinct, Chain}
 use Rattle.ways.specs.Order.{Before, short, less, same, before, Rising}
 use Rattle.ways.specs.Listing.{by, ways, listing}
-use Rattle.ways.proofs.Members.{flatMap-from}
 use Rattle.ways.proofs.Listed.{exact}
-use Rattle.ways.proofs.Rising.{rising-append, rising-distinct, only}
+use Rattle.ways.proofs.Rising.{rising-distinct, only, rising-by, rising-across}
 
 -- dictionary order is an order
 pub before-trans : {a b c : List ℕ} → Before a b → Before b c → Before a c
@@ -60,22 +59,16 @@ abbrev pub Heads : ℕ → List (List ℕ) → Type 0
 Heads x L = (c : List ℕ) → c ∈ L → (w : List ℕ) × (c ≡ x ∷ w)
 
 pub rising-map : (x : ℕ) (L : List (List ℕ)) → Rising Before L → Rising Before (map (_∷_ x) L)
-rising-map x [] r = tt
-rising-map x (a ∷ L) r = ((λ y m. step y (Memᴰ·of-map (_∷_ x) L m)), rising-map x L (r .1))
-  where
-    step : (y : List ℕ) → (b : List ℕ) × (b ∈ L) × (x ∷ b ≡ y) → Before (x ∷ a) y
-    step y q = subst (λ z. Before (x ∷ a) z) (q .2) (same refl (r .0 (q .0) (q .1)))
+rising-map x L r = rising-by Before Before (_∷_ x) L r (λ a b i j h. same refl h)
 
 pub rising-flatMap : (f : ℕ → List (List ℕ)) (row : List ℕ) → Rising _<_ row → ((x : ℕ) → Rising Before (f x)) → ((x : ℕ) → Heads x (f x)) → Rising Before (flatMap f row)
-unfolding flatMap
-rising-flatMap f [] r all heads = tt
-rising-flatMap f (x ∷ row) r all heads = rising-append Before (f x) (flatMap f row) (all x) (rising-flatMap f row (r .1) all heads) (λ a b i j. step a b i (flatMap-from f row j))
+rising-flatMap f row r all heads = rising-across _<_ Before f row r (λ x m. all x) step
   where
-    step : (a b : List ℕ) → a ∈ f x → (y : ℕ) × (y ∈ row) × (b ∈ f y) → Before a b
-    step a b i q =
+    step : (x y : ℕ) → x ∈ row → y ∈ row → x < y → (a b : List ℕ) → a ∈ f x → b ∈ f y → Before a b
+    step x y m n l a b i j =
         let u = heads x a i in
-        let v = heads (q .0) b (q .2) in
-        subst₂ Before (sym (u .1)) (sym (v .1)) (less (r .0 (q .0) (q .1)))
+        let v = heads y b j in
+        subst₂ Before (sym (u .1)) (sym (v .1)) (less l)
 
 -- `by`: all begin with v, and rise
 pub by-heads : (t : ℕ) (seen : List ℕ) (on : List ℕ → ℕ → List (List ℕ)) (v : ℕ) → Heads v (by t seen on v)

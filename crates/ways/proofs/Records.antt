@@ -16,6 +16,10 @@ use Rattle.ways.specs.Records.{recordOf, chainOf, Fits, Shaped, cellsOf,
 use Rattle.ways.proofs.Way.{Way, ends, goes, way-from}
 
 -- ways and chains fit
+pub length-hops : (c : List ℕ) → 1 ≤ length c → suc (hops c) ≡ length c
+length-hops [] h = absurd (omega arith)
+length-hops (p ∷ c) h = refl
+
 pub way-some : {g : Graph} {t k p : ℕ} {seen w : List ℕ} → Way g t k seen p w → 1 ≤ length w
 way-some (ends m e) = omega arith
 way-some (goes m n o r) = omega arith
@@ -24,22 +28,22 @@ pub way-few : {g : Graph} {t k p : ℕ} {seen w : List ℕ} → Way g t k seen p
 way-few (ends m e) = omega arith
 way-few (goes m n o r) = omega (arith, way-few r)
 
-pub listing-fits : (g : Graph) (s t k size : ℕ) → k + 2 ≤ size → (c : List ℕ) → c ∈ listing g s t k → Fits size c
+pub listing-some : (g : Graph) (s t k : ℕ) (c : List ℕ) → c ∈ listing g s t k → 1 ≤ length c
 unfolding listing
-listing-fits g s t k size h c m = let q = Memᴰ·of-map (_∷_ s) (ways g t k (s ∷ []) s) m in step (q .0) (way-few (way-from g t k s (s ∷ []) (q .1))) (q .2)
-  where
-    step : (w : List ℕ) → length w ≤ k → s ∷ w ≡ c → Fits size c
-    step w l e = subst (λ d. Fits size d) e (record { some = omega arith; room = omega arith })
+listing-some g s t k c m = let q = Memᴰ·of-map (_∷_ s) (ways g t k (s ∷ []) s) m in omega (arith, ap length (q .2))
+
+pub listing-few : (g : Graph) (s t k : ℕ) (c : List ℕ) → c ∈ listing g s t k → hops c ≤ k
+unfolding listing
+listing-few g s t k c m = let q = Memᴰ·of-map (_∷_ s) (ways g t k (s ∷ []) s) m in omega (arith, ap hops (q .2), way-few (way-from g t k s (s ∷ []) (q .1)))
+
+pub listing-fits : (g : Graph) (s t k size : ℕ) → k + 2 ≤ size → (c : List ℕ) → c ∈ listing g s t k → Fits size c
+listing-fits g s t k size h c m = let a = listing-some g s t k c m in let b = listing-few g s t k c m in let e = length-hops c a in record { some = a; room = omega arith }
 
 pub chain-fits : {g : Graph} {s t k : ℕ} {c : List ℕ} (size : ℕ) → k + 2 ≤ size → Chain g s t k c → Fits size c
 chain-fits {c = []} size h r = absurd (r .first)
 chain-fits {c = p ∷ c} size h r = record { some = omega arith; room = omega arith }
 
 -- one record
-pub length-hops : (c : List ℕ) → 1 ≤ length c → suc (hops c) ≡ length c
-length-hops [] h = absurd (omega arith)
-length-hops (p ∷ c) h = refl
-
 pub chainOf-recordOf : (size : ℕ) (c : List ℕ) → 1 ≤ length c → chainOf (recordOf size c) ≡ c
 unfolding chainOf recordOf
 chainOf-recordOf size c h = take-at c (replicate (size - suc (length c)) 0) (suc (hops c)) (sym (length-hops c h))

@@ -1,10 +1,12 @@
 -- Lists that rise in an order: nothing stands there twice, and the members determine the list.
 use mathlib.Core.Path.{_≡_, refl, sym, ap₂, subst, _∙_}
 use mathlib.Core.Logic.{_⊎_, inl, inr}
-use mathlib.Core.List.{List, [], _∷_, _++_, List·Memᴰ·head, List·Memᴰ·tail, List·Memᴰ·not-nil, List·Memᴰ·cases-cons, List·Memᴰ·append-cases, Memᴰ·append-right}
-use Rattle.ways.specs.Graph.{_∈_}
+use mathlib.Core.Bool.{Bool, true, false}
+use mathlib.Core.List.{List, [], _∷_, _++_, map, flatMap, List·Memᴰ·head, List·Memᴰ·tail, List·Memᴰ·not-nil, List·Memᴰ·cases-cons, List·Memᴰ·append-cases, Memᴰ·append-right, Memᴰ·of-map}
+use Rattle.ways.specs.Graph.{_∈_, pick, keep}
 use Rattle.ways.specs.Chain.{Distinct}
 use Rattle.ways.specs.Order.{Rising}
+use Rattle.ways.proofs.Members.{flatMap-from, keep-from}
 
 -- each one of l stands before the next
 abbrev pub Steps : {A : Type 0} → (A → A → Type 0) → List A → Type 0
@@ -73,3 +75,38 @@ rising-below R hi (List·Memᴰ·tail m) r = rising-below R hi m (r .1)
 pub rising-above : {A : Type 0} (R : A → A → Type 0) (x : A) (lo hi : List A) → Rising R (lo ++ x ∷ hi) → (y : A) → y ∈ hi → R x y
 rising-above R x [] hi r = r .0
 rising-above R x (z ∷ lo) hi r = rising-above R x lo hi (r .1)
+
+-- through a test, a function, and lists one after the other
+module _ {A : Type 0} (R : A → A → Type 0) where
+  pub rising-keep : (f : A → Bool) (l : List A) → Rising R l → Rising R (keep f l)
+  unfolding keep
+  rising-keep f [] r = tt
+  rising-keep f (x ∷ l) r = go (f x) (rising-keep f l (r .1))
+    where
+      go : (t : Bool) → Rising R (keep f l) → Rising R (pick t (x ∷ keep f l) (keep f l))
+      go true q = ((λ y m. r .0 y (keep-from f l m .0)), q)
+      go false q = q
+
+  module _ {B : Type 0} (S : B → B → Type 0) where
+    pub rising-by : (f : A → B) (l : List A) → Rising R l → ((x y : A) → x ∈ l → y ∈ l → R x y → S (f x) (f y)) → Rising S (map f l)
+    rising-by f [] r h = tt
+    rising-by f (x ∷ l) r h = ((λ b m. step b (Memᴰ·of-map f l m)), rising-by f l (r .1) (λ y z i j. h y z (List·Memᴰ·tail i) (List·Memᴰ·tail j)))
+      where
+        step : (b : B) → (y : A) × (y ∈ l) × (f y ≡ b) → S (f x) b
+        step b q = subst (λ z. S (f x) z) (q .2) (h x (q .0) (List·Memᴰ·head refl) (List·Memᴰ·tail (q .1)) (r .0 (q .0) (q .1)))
+
+    pub rising-across : (f : A → List B) (l : List A) → Rising R l → ((x : A) → x ∈ l → Rising S (f x)) → ((x y : A) → x ∈ l → y ∈ l → R x y → (a b : B) → a ∈ f x → b ∈ f y → S a b) → Rising S (flatMap f l)
+    unfolding flatMap
+    rising-across f [] r all h = tt
+    rising-across f (x ∷ l) r all h =
+        rising-append S (f x) (flatMap f l) (all x (List·Memᴰ·head refl))
+        (rising-across f l (r .1) (λ y m. all y (List·Memᴰ·tail m)) (λ y z i j. h y z (List·Memᴰ·tail i) (List·Memᴰ·tail j)))
+        (λ a b i j. step a b i (flatMap-from f l j))
+      where
+        step : (a b : B) → a ∈ f x → (y : A) × (y ∈ l) × (b ∈ f y) → S a b
+        step a b i q = h x (q .0) (List·Memᴰ·head refl) (List·Memᴰ·tail (q .1)) (r .0 (q .0) (q .1)) a b i (q .2)
+
+-- in another order
+pub rising-within : {A : Type 0} (R S : A → A → Type 0) (l : List A) → Rising R l → ((x y : A) → x ∈ l → y ∈ l → R x y → S x y) → Rising S l
+rising-within R S [] r h = tt
+rising-within R S (x ∷ l) r h = ((λ y m. h x y (List·Memᴰ·head refl) (List·Memᴰ·tail m) (r .0 y m)), rising-within R S l (r .1) (λ y z i j. h y z (List·Memᴰ·tail i) (List·Memᴰ·tail j)))

@@ -22,3 +22,8 @@ pick false a b = b
 unfoldable pub among : ℕ → List ℕ → Bool
 among p [] = false
 among p (q ∷ qs) = pick (eqb p q) true (among p qs)
+
+-- those of l that pass the test
+unfoldable pub keep : {A : Type 0} → (A → Bool) → List A → List A
+keep f [] = []
+keep f (x ∷ l) = pick (f x) (x ∷ keep f l) (keep f l)

@@ -6,3 +6,6 @@ pub mod Listing
 pub mod Portions
 pub mod Records
 pub mod Fewest
+pub mod ByHops
+pub mod Halves
+pub mod Join

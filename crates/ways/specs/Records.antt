@@ -35,8 +35,8 @@ cellsOf size [] = []
 cellsOf size (c ∷ L) = recordOf size c ++ cellsOf size L
 
 -- "The output has room for r = its length divided by ten, rounded down."
-abbrev pub roomOf : ℕ → List ℕ → ℕ
-roomOf size cells = length cells / size
+abbrev pub roomOf : ℕ → ℕ → ℕ
+roomOf size cells = cells / size
 
 -- "from cell 0 .. Other output cells are unchanged": the cells after the records of L were written to them
 unfoldable pub written : ℕ → List (List ℕ) → List ℕ → List ℕ

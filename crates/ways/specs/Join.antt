@@ -1,0 +1,54 @@
+-- Joining half chains. Definitions only.
+-- "A chain of L hops splits at one place only: the left half has L/2 hops rounded up, the right half the rest, and they share only the middle person."
+use mathlib.Core.Path.{_≡_}
+use mathlib.Core.Bool.{Bool, true, false}
+use mathlib.Core.List.{List, [], _∷_, _++_, map, flatMap}
+use Prim.Native.Nat.{ℕ, zero, suc, _+_, _-_, _/_}
+use lib.Dec.{eqb}
+use Rattle.ways.specs.Graph.{Graph, pick, among, keep}
+use Rattle.ways.specs.Chain.{First, Linked, Distinct, hops}
+use Rattle.ways.specs.Portions.{lastOr}
+use Rattle.ways.specs.Halves.{halfChains}
+
+-- "L/2 hops rounded up"
+abbrev pub leftHops : ℕ → ℕ
+leftHops L = (L + 1) / 2
+
+-- "the rest"
+abbrev pub rightHops : ℕ → ℕ
+rightHops L = L - leftHops L
+
+-- l is a left half of exactly i hops: a simple sequence of admitted links that starts at From
+pub record LeftHalf (g : Graph) (s i : ℕ) (l : List ℕ) : Type 0 where
+  pub first : First s l
+  pub linked : Linked g l
+  pub once : Distinct l
+  pub exactly : hops l ≡ i
+
+-- all simple sequences of exactly i hops on from p that pass nobody seen, in dictionary order
+unfoldable pub onward : Graph → ℕ → List ℕ → ℕ → List (List ℕ)
+onward g zero seen p = [] ∷ []
+onward g (suc i) seen p = flatMap (λ v. pick (among v seen) [] (map (_∷_ v) (onward g i (v ∷ seen) v))) (g p)
+
+-- the left halves of exactly i hops, in dictionary order
+unfoldable pub leftHalves : Graph → ℕ → ℕ → List (List ℕ)
+leftHalves g s i = map (_∷_ s) (onward g i (s ∷ []) s)
+
+-- whether nobody of a stands in b
+unfoldable pub noneAmong : List ℕ → List ℕ → Bool
+noneAmong [] b = true
+noneAmong (x ∷ a) b = pick (among x b) false (noneAmong a b)
+
+-- whether the right half h starts where l ends, and shares only that person with it
+unfoldable pub meets : List ℕ → List ℕ → Bool
+meets l [] = false
+meets l (m ∷ h) = pick (eqb m (lastOr m l)) (noneAmong h l) false
+
+-- the two halves put together: the middle person stands once
+unfoldable pub glue : List ℕ → List ℕ → List ℕ
+glue l [] = l
+glue l (m ∷ h) = l ++ h
+
+-- left halves in dictionary order, each with its right halves in dictionary order
+unfoldable pub joined : Graph → ℕ → ℕ → ℕ → ℕ → List (List ℕ)
+joined g n s t L = flatMap (λ l. map (glue l) (keep (meets l) (halfChains g n s t (rightHops L)))) (leftHalves g s (leftHops L))
