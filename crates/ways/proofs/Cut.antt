@@ -1,10 +1,11 @@
 -- A sequence of persons is cut at one of them, and put together again.
-use mathlib.Core.Path.{refl, sym}
+use mathlib.Core.Path.{_≡_, refl, sym, ap, _∙_}
 use mathlib.Core.Logic.{_⊎_, inl, inr}
 use mathlib.Core.List.{List, [], _∷_, _++_, List·Memᴰ·head, List·Memᴰ·tail, List·Memᴰ·append-cases, Memᴰ·append-left, Memᴰ·append-right, Memᴰ·cast}
 use Prim.Native.Nat.{ℕ}
 use Rattle.ways.specs.Graph.{Graph, _∈_}
-use Rattle.ways.specs.Chain.{Last, Linked, Distinct}
+use Rattle.ways.specs.Chain.{First, Last, Linked, Distinct}
+use Rattle.ways.specs.Portions.{lastOr}
 
 -- a walk that is cut at one of its persons
 pub linked-left : (g : Graph) (u : ℕ) (lo hi : List ℕ) → Linked g (lo ++ u ∷ hi) → Linked g (lo ++ (u ∷ []))
@@ -26,6 +27,32 @@ pub last-snoc : (u : ℕ) (lo : List ℕ) → Last u (lo ++ (u ∷ []))
 last-snoc u [] = refl
 last-snoc u (p ∷ []) = refl
 last-snoc u (p ∷ q ∷ lo) = last-snoc u (q ∷ lo)
+
+pub first-left : (s u : ℕ) (lo hi : List ℕ) → First s (lo ++ u ∷ hi) → First s (lo ++ (u ∷ []))
+first-left s u [] hi f = f
+first-left s u (p ∷ lo) hi f = f
+
+pub first-append : (s u : ℕ) (lo hi : List ℕ) → First s (lo ++ (u ∷ [])) → First s (lo ++ u ∷ hi)
+first-append s u [] hi f = f
+first-append s u (p ∷ lo) hi f = f
+
+-- the last stands behind the others
+pub last-part : (t : ℕ) (l : List ℕ) → Last t l → (lo : List ℕ) × (l ≡ lo ++ (t ∷ []))
+last-part t [] h = absurd h
+last-part t (p ∷ []) h = ([], ap (λ x. x ∷ []) h)
+last-part t (p ∷ q ∷ l) h = let r = last-part t (q ∷ l) h in (p ∷ r .0, ap (_∷_ p) (r .1))
+
+pub lastOr-last : (p : ℕ) (l : List ℕ) → Last (lastOr p l) (p ∷ l)
+lastOr-last p [] = refl
+lastOr-last p (q ∷ l) = lastOr-last q l
+
+pub last-lastOr : (m p : ℕ) (l : List ℕ) → Last m (p ∷ l) → lastOr p l ≡ m
+last-lastOr m p [] h = h
+last-lastOr m p (q ∷ l) h = last-lastOr m q l h
+
+pub last-only : (t u : ℕ) (l : List ℕ) → Last t l → Last u l → t ≡ u
+last-only t u [] h i = absurd h
+last-only t u (p ∷ l) h i = sym (last-lastOr t p l h) ∙ last-lastOr u p l i
 
 pub linked-append : (g : Graph) (u : ℕ) (lo hi : List ℕ) → Linked g (lo ++ (u ∷ [])) → Linked g (u ∷ hi) → Linked g (lo ++ u ∷ hi)
 linked-append g u [] hi l r = r

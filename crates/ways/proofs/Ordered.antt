@@ -2,9 +2,10 @@
 use mathlib.Core.Path.{_≡_, refl, sym, subst₂, _∙_}
 use mathlib.Core.Logic.{_≢_, _↔_}
 use mathlib.Core.Bool.{Bool, true, false, false≢true}
-use mathlib.Core.List.{List, [], _∷_, map, flatMap, List·Memᴰ·not-nil, List·Memᴰ·eq-of-singleton, Memᴰ·of-map}
+use mathlib.Core.List.{List, [], _∷_, _++_, map, flatMap, List·Memᴰ·not-nil, List·Memᴰ·eq-of-singleton, Memᴰ·of-map}
 use Prim.Native.Nat.{ℕ, zero, suc, _<_}
 use native.Mathlib.Omega.{arith}
+use lib.ListN.{length}
 use lib.Dec.{eqb, ltb}
 use borrow.Author.Tests.{eqb-true, eq-eqb, ltb-true, lt-ltb, le-ltb}
 use Rattle.ways.specs.Graph.{Graph, _∈_, pick, among}
@@ -53,6 +54,16 @@ false-before a b n = go (before a b) refl
     go : (t : Bool) → before a b ≡ t → before a b ≡ false
     go true h = absurd (n (before-true a b h))
     go false h = h
+
+-- what stands behind equal beginnings decides; what stands behind different ones of one length does not
+pub before-append : (l : List ℕ) {a b : List ℕ} → Before a b → Before (l ++ a) (l ++ b)
+before-append [] r = r
+before-append (x ∷ l) r = same refl (before-append l r)
+
+pub before-longer : {a b : List ℕ} (c d : List ℕ) → Before a b → length a ≡ length b → Before (a ++ c) (b ++ d)
+before-longer c d short e = absurd (omega arith)
+before-longer c d (less h) e = less h
+before-longer c d (same {a = a} {b = b} h r) e = let i : length a ≡ length b = omega arith in same h (before-longer c d r i)
 
 -- a row of lists that all begin with x
 abbrev pub Heads : ℕ → List (List ℕ) → Type 0

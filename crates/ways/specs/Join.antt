@@ -5,10 +5,10 @@ use mathlib.Core.Bool.{Bool, true, false}
 use mathlib.Core.List.{List, [], _∷_, _++_, map, flatMap}
 use Prim.Native.Nat.{ℕ, zero, suc, _+_, _-_, _/_}
 use lib.Dec.{eqb}
-use Rattle.ways.specs.Graph.{Graph, pick, among, keep}
-use Rattle.ways.specs.Chain.{First, Linked, Distinct, hops}
+use Rattle.ways.specs.Graph.{Graph, _∈_, pick, among, keep}
+use Rattle.ways.specs.Chain.{First, Last, Linked, Distinct, hops}
 use Rattle.ways.specs.Portions.{lastOr}
-use Rattle.ways.specs.Halves.{halfChains}
+use Rattle.ways.specs.Halves.{HalfChain, halfChains}
 
 -- "L/2 hops rounded up"
 abbrev pub leftHops : ℕ → ℕ
@@ -34,20 +34,33 @@ onward g (suc i) seen p = flatMap (λ v. pick (among v seen) [] (map (_∷_ v) (
 unfoldable pub leftHalves : Graph → ℕ → ℕ → List (List ℕ)
 leftHalves g s i = map (_∷_ s) (onward g i (s ∷ []) s)
 
+-- "they share only the middle person": h starts where l ends, and nobody behind that person stands in l
+abbrev pub Meets : List ℕ → List ℕ → Type 0
+Meets l [] = ⊥
+Meets l (m ∷ h) = Last m l × ((x : ℕ) → x ∈ h → ¬ (x ∈ l))
+
 -- whether nobody of a stands in b
 unfoldable pub noneAmong : List ℕ → List ℕ → Bool
 noneAmong [] b = true
 noneAmong (x ∷ a) b = pick (among x b) false (noneAmong a b)
 
--- whether the right half h starts where l ends, and shares only that person with it
+-- the same as a test that computes
 unfoldable pub meets : List ℕ → List ℕ → Bool
 meets l [] = false
-meets l (m ∷ h) = pick (eqb m (lastOr m l)) (noneAmong h l) false
+meets [] (m ∷ h) = false
+meets (p ∷ l) (m ∷ h) = pick (eqb (lastOr p l) m) (noneAmong h (p ∷ l)) false
 
 -- the two halves put together: the middle person stands once
-unfoldable pub glue : List ℕ → List ℕ → List ℕ
+abbrev pub glue : List ℕ → List ℕ → List ℕ
 glue l [] = l
 glue l (m ∷ h) = l ++ h
+
+-- c, of L hops, splits into l and h
+pub record Split (g : Graph) (s t L : ℕ) (l h c : List ℕ) : Type 0 where
+  pub left : LeftHalf g s (leftHops L) l
+  pub right : HalfChain g s t (rightHops L) h
+  pub middle : Meets l h
+  pub whole : glue l h ≡ c
 
 -- left halves in dictionary order, each with its right halves in dictionary order
 unfoldable pub joined : Graph → ℕ → ℕ → ℕ → ℕ → List (List ℕ)
