@@ -2,7 +2,7 @@
 use mathlib.Core.Path.{_≡_, refl, sym, ap, subst}
 use mathlib.Core.Logic.{_≢_, _↔_, _⊎_, inl, inr}
 use mathlib.Core.Bool.{Bool, true, false, false≢true}
-use mathlib.Core.List.{List, [], _∷_, _++_, map, List·Memᴰ·head, List·Memᴰ·tail, List·Memᴰ·not-nil, List·Memᴰ·append-cases, List·Memᴰ·eq-of-singleton, Memᴰ·append-left, Memᴰ·append-right, Memᴰ·map, Memᴰ·of-map}
+use mathlib.Core.List.{List, [], _∷_, _++_, map, List·Memᴰ·head, List·Memᴰ·tail, List·Memᴰ·not-nil, List·Memᴰ·append-cases, List·Memᴰ·eq-of-singleton, Memᴰ·append-left, Memᴰ·append-right, Memᴰ·map}
 use Prim.Native.Nat.{ℕ, zero, suc, _+_, _/_, _≤_, _<_}
 use native.Mathlib.Omega.{arith}
 use native.Mathlib.Decide.{decLt}
@@ -16,7 +16,7 @@ use Rattle.ways.specs.ByHops.{Sooner}
 use Rattle.ways.specs.Halves.{HalfChain, personsBelow, extends, halfChains, halves}
 use Rattle.ways.proofs.Members.{flatMap-in, flatMap-from, among-true, mem-among, among-false, out-among, out, keep-from, keep-in}
 use Rattle.ways.proofs.Rising.{rising-append, only, rising-keep}
-use Rattle.ways.proofs.Ordered.{rising-map, rising-flatMap}
+use Rattle.ways.proofs.Ordered.{rising-flatMap, unless-from, unless-heads, unless-rising}
 use Rattle.ways.proofs.ByHops.{sooner-asym, shorterFirst-from, shorterFirst-in, shorterFirst-rising}
 
 -- the persons of a file
@@ -57,33 +57,14 @@ pub true-extends : (g : Graph) (p q : ℕ) (h : List ℕ) → q ∈ g p → ¬ (
 unfolding extends
 true-extends g p q h m o = rw (mem-among m, out-among o)
 
--- the half chains that begin with p
-module _ (g : Graph) (s : ℕ) (H : List (List ℕ)) (p : ℕ) where
-  front-from : {h : List ℕ} → h ∈ pick (eqb p s) [] (map (_∷_ p) (keep (extends g p) H)) → (p ≢ s) × (w : List ℕ) × (w ∈ H) × (extends g p w ≡ true) × (p ∷ w ≡ h)
-  front-from {h} m = go (eqb p s) refl m
-    where
-      go : (b : Bool) → eqb p s ≡ b → h ∈ pick b [] (map (_∷_ p) (keep (extends g p) H)) → (p ≢ s) × (w : List ℕ) × (w ∈ H) × (extends g p w ≡ true) × (p ∷ w ≡ h)
-      go true e m = absurd (List·Memᴰ·not-nil m)
-      go false e m =
-          let r = Memᴰ·of-map (_∷_ p) (keep (extends g p) H) m in
-          let q = keep-from (extends g p) H (r .1) in
-          (eqb-false p s e, r .0, q .0, q .1, r .2)
-
-  front-rising : Rising Before H → Rising Before (pick (eqb p s) [] (map (_∷_ p) (keep (extends g p) H)))
-  front-rising r = go (eqb p s)
-    where
-      go : (b : Bool) → Rising Before (pick b [] (map (_∷_ p) (keep (extends g p) H)))
-      go true = tt
-      go false = rising-map p (keep (extends g p) H) (rising-keep Before (extends g p) H r)
-
 -- in dictionary order
 pub halfChains-rising : (g : Graph) (n s t j : ℕ) → Rising Before (halfChains g n s t j)
 unfolding halfChains
 halfChains-rising g n s t zero = ((λ y m. absurd (List·Memᴰ·not-nil m)), tt)
 halfChains-rising g n s t (suc j) =
     rising-flatMap _ (personsBelow n) (persons-rising n)
-    (λ p. front-rising g s (halfChains g n s t j) p (halfChains-rising g n s t j))
-    (λ p c m. let r = front-from g s (halfChains g n s t j) p m in (r .1, sym (r .4)))
+    (λ p. unless-rising p (keep (extends g p) (halfChains g n s t j)) (eqb p s) (rising-keep Before (extends g p) (halfChains g n s t j) (halfChains-rising g n s t j)))
+    (λ p. unless-heads p (keep (extends g p) (halfChains g n s t j)) (eqb p s))
 
 -- exact: just the half chains of j hops, in a file that has n persons
 module _ (g : Graph) (n s t : ℕ) (apart : s ≢ t) where
@@ -101,8 +82,9 @@ module _ (g : Graph) (n s t : ℕ) (apart : s ≢ t) where
       step : ((w : List ℕ) → w ∈ halfChains g n s t j → HalfChain g s t j w)
           → (p : ℕ) × (p ∈ personsBelow n) × (h ∈ pick (eqb p s) [] (map (_∷_ p) (keep (extends g p) (halfChains g n s t j)))) → HalfChain g s t (suc j) h
       step on q =
-          let r = front-from g s (halfChains g n s t j) (q .0) (q .2) in
-          subst (HalfChain g s t (suc j)) (r .4) (put (q .0) (r .1) (r .0) (r .3) (on (r .1) (r .2)))
+          let r = unless-from (q .0) (keep (extends g (q .0)) (halfChains g n s t j)) (eqb (q .0) s) (q .2) in
+          let x = keep-from (extends g (q .0)) (halfChains g n s t j) (r .2) in
+          subst (HalfChain g s t (suc j)) (r .3) (put (q .0) (r .1) (eqb-false (q .0) s (r .0)) (x .1) (on (r .1) (x .0)))
 
   module _ (low : (p v : ℕ) → v ∈ g p → p < n) where
     pub halfChains-in : (j : ℕ) (h : List ℕ) → HalfChain g s t j h → h ∈ halfChains g n s t j

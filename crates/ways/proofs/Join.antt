@@ -1,28 +1,29 @@
 -- The join: a chain of L hops splits at one place only, every pair of halves that meet is a chain, and the joined list is the chains of L hops in dictionary order.
 use mathlib.Core.Path.{_≡_, refl, sym, ap, ap₂, subst, subst₂, _∙_, fun-ext}
-use mathlib.Core.Logic.{_≢_, _↔_, _⊎_, inl, inr}
+use mathlib.Core.Logic.{_≢_, _⊎_, inl, inr}
 use mathlib.Core.Bool.{Bool, true, false, false≢true}
-use mathlib.Core.List.{List, [], _∷_, _++_, map, List·Memᴰ·head, List·Memᴰ·tail, List·Memᴰ·not-nil, List·Memᴰ·cases-cons, List·Memᴰ·eq-of-singleton, Memᴰ·map, Memᴰ·of-map, Memᴰ·cast}
-use Prim.Native.Nat.{ℕ, zero, suc, _+_, _/_, _≤_, _<_}
+use mathlib.Core.List.{List, [], _∷_, _++_, List·Memᴰ·head, List·Memᴰ·tail, List·Memᴰ·not-nil, List·Memᴰ·cases-cons, Memᴰ·map, Memᴰ·of-map, Memᴰ·cast}
+use Prim.Native.Nat.{ℕ, suc, _+_, _/_, _≤_, _<_}
 use native.Mathlib.Omega.{arith}
 use lib.ListN.{length, getD, take, drop, length-append}
 use lib.Seq.{split-at, append-snoc, take-at, drop-at, length-take-le}
 use lib.Dec.{eqb}
 use borrow.Author.Tests.{eqb-true, eq-eqb}
 use Rattle.ways.specs.Graph.{Graph, _∈_, pick, among, keep}
-use Rattle.ways.specs.Chain.{Last, Linked, Distinct, hops, Chain}
+use Rattle.ways.specs.Chain.{Last, Distinct, hops, Chain}
 use Rattle.ways.specs.Order.{Before, less, same, Rising}
 use Rattle.ways.specs.Portions.{lastOr, left}
 use Rattle.ways.specs.ByHops.{shorterFirst, chainsOf, byHops}
 use Rattle.ways.specs.Halves.{HalfChain, halfChains}
-use Rattle.ways.specs.Join.{leftHops, rightHops, LeftHalf, onward, leftHalves, Meets, noneAmong, meets, glue, Split, joined}
-use Rattle.ways.proofs.Members.{flatMap-in, flatMap-from, among-false, out-among, out, keep-from, keep-in}
+use Rattle.ways.specs.Join.{leftHops, rightHops, LeftHalf, leftHalves, Meets, noneAmong, meets, glue, Split, joined}
+use Rattle.ways.proofs.Members.{flatMap-in, flatMap-from, among-false, out-among, keep-from, keep-in}
 use Rattle.ways.proofs.Cut.{linked-left, linked-right, last-right, last-snoc, last-part, lastOr-last, last-lastOr, last-only, linked-append, last-append, distinct-left, distinct-right, distinct-apart, distinct-append}
 use Rattle.ways.proofs.Listed.{exact}
 use Rattle.ways.proofs.Rising.{only, rising-keep, rising-by, rising-across}
-use Rattle.ways.proofs.Ordered.{before-asym, before-append, before-longer, rising-map, rising-flatMap}
+use Rattle.ways.proofs.Ordered.{before-asym, before-append, before-longer}
 use Rattle.ways.proofs.ByHops.{chainsOf-from, chainsOf-in, chainsOf-rising}
 use Rattle.ways.proofs.Halves.{halfChains-rising, halfChains-from, halfChains-in}
+use Rattle.ways.proofs.Onward.{leftHalves-from, leftHalves-in, leftHalves-rising}
 
 -- both halves together have L hops; the right half is a half chain of the question
 pub left-right : (L : ℕ) → leftHops L + rightHops L ≡ L
@@ -33,86 +34,6 @@ left-some L h = omega arith
 
 pub right-within : (L k : ℕ) → L ≤ k → rightHops L ≤ k / 2
 right-within L k l = omega arith
-
--- onward: just the simple sequences of i hops that pass nobody seen
-record Onward (g : Graph) (i : ℕ) (seen : List ℕ) (p : ℕ) (w : List ℕ) : Type 0 where
-  linked : Linked g (p ∷ w)
-  once : Distinct w
-  apart : (x : ℕ) → x ∈ w → ¬ (x ∈ seen)
-  exactly : length w ≡ i
-
-module _ (g : Graph) (next : List (List ℕ)) (seen : List ℕ) (v : ℕ) where
-  step-from : {w : List ℕ} → w ∈ pick (among v seen) [] (map (_∷_ v) next) → (¬ (v ∈ seen)) × (u : List ℕ) × (u ∈ next) × (v ∷ u ≡ w)
-  step-from {w} m = go (among v seen) refl m
-    where
-      go : (b : Bool) → among v seen ≡ b → w ∈ pick b [] (map (_∷_ v) next) → (¬ (v ∈ seen)) × (u : List ℕ) × (u ∈ next) × (v ∷ u ≡ w)
-      go true e m = absurd (List·Memᴰ·not-nil m)
-      go false e m = let r = Memᴰ·of-map (_∷_ v) next m in (among-false e, r .0, r .1, r .2)
-
-  step-rising : Rising Before next → Rising Before (pick (among v seen) [] (map (_∷_ v) next))
-  step-rising r = go (among v seen)
-    where
-      go : (b : Bool) → Rising Before (pick b [] (map (_∷_ v) next))
-      go true = tt
-      go false = rising-map v next r
-
-onward-from : (g : Graph) (i : ℕ) (seen : List ℕ) (p : ℕ) {w : List ℕ} → w ∈ onward g i seen p → Onward g i seen p w
-unfolding onward
-onward-from g zero seen p m = subst (Onward g 0 seen p) (sym (List·Memᴰ·eq-of-singleton m)) (record { linked = tt; once = tt; apart = λ x i. absurd (List·Memᴰ·not-nil i); exactly = refl })
-onward-from g (suc i) seen p {w} m = step (λ v u n. onward-from g i (v ∷ seen) v n) (flatMap-from _ (g p) m)
-  where
-    On : Type 0
-    On = (v : ℕ) (u : List ℕ) → u ∈ onward g i (v ∷ seen) v → Onward g i (v ∷ seen) v u
-
-    put : (v : ℕ) (u : List ℕ) → v ∈ g p → ¬ (v ∈ seen) → Onward g i (v ∷ seen) v u → Onward g (suc i) seen p (v ∷ u)
-    put v u m o r = record { linked = (m, r .linked); once = (λ j. r .apart v j (List·Memᴰ·head refl), r .once); apart = λ x j. apart x (List·Memᴰ·cases-cons j); exactly = ap suc (r .exactly) }
-      where
-        apart : (x : ℕ) → (x ≡ v) ⊎ (x ∈ u) → ¬ (x ∈ seen)
-        apart x (inl e) j = o (Memᴰ·cast (sym e) j)
-        apart x (inr q) j = r .apart x q (List·Memᴰ·tail j)
-
-    step : On → (v : ℕ) × (v ∈ g p) × (w ∈ pick (among v seen) [] (map (_∷_ v) (onward g i (v ∷ seen) v))) → Onward g (suc i) seen p w
-    step on q =
-        let r = step-from g (onward g i (q .0 ∷ seen) (q .0)) seen (q .0) (q .2) in
-        subst (Onward g (suc i) seen p) (r .3) (put (q .0) (r .1) (q .1) (r .0) (on (q .0) (r .1) (r .2)))
-
-onward-in : (g : Graph) (i : ℕ) (seen : List ℕ) (p : ℕ) (w : List ℕ) → Onward g i seen p w → w ∈ onward g i seen p
-unfolding onward
-onward-in g zero seen p [] r = List·Memᴰ·head refl
-onward-in g zero seen p (v ∷ w) r = absurd (omega arith)
-onward-in g (suc i) seen p [] r = absurd (omega arith)
-onward-in g (suc i) seen p (v ∷ w) r =
-    let rest = onward-in g i (v ∷ seen) v w (record { linked = r .linked .1; once = r .once .1; apart = λ x j. out (λ e. r .once .0 (Memᴰ·cast (sym e) j)) (r .apart x (List·Memᴰ·tail j)); exactly = omega arith }) in
-    flatMap-in _ (r .linked .0) (rw (out-among (r .apart v (List·Memᴰ·head refl))) (Memᴰ·map (_∷_ v) rest))
-
-onward-rising : (g : Graph) → ((p : ℕ) → Rising _<_ (g p)) → (i : ℕ) (seen : List ℕ) (p : ℕ) → Rising Before (onward g i seen p)
-unfolding onward
-onward-rising g rows zero seen p = ((λ y m. absurd (List·Memᴰ·not-nil m)), tt)
-onward-rising g rows (suc i) seen p =
-    rising-flatMap _ (g p) (rows p)
-    (λ v. step-rising g (onward g i (v ∷ seen) v) seen v (onward-rising g rows i (v ∷ seen) v))
-    (λ v c m. let r = step-from g (onward g i (v ∷ seen) v) seen v m in (r .1, sym (r .3)))
-
--- left halves
-pub leftHalves-from : (g : Graph) (s i : ℕ) {l : List ℕ} → l ∈ leftHalves g s i → LeftHalf g s i l
-unfolding leftHalves
-leftHalves-from g s i {l} m = let q = Memᴰ·of-map (_∷_ s) (onward g i (s ∷ []) s) m in put (q .0) (q .2) (onward-from g i (s ∷ []) s (q .1))
-  where
-    put : (w : List ℕ) → s ∷ w ≡ l → Onward g i (s ∷ []) s w → LeftHalf g s i l
-    put w e r = subst (LeftHalf g s i) e (record { first = refl; linked = r .linked; once = (λ j. r .apart s j (List·Memᴰ·head refl), r .once); exactly = r .exactly })
-
-pub leftHalves-in : (g : Graph) (s i : ℕ) (l : List ℕ) → LeftHalf g s i l → l ∈ leftHalves g s i
-unfolding leftHalves
-leftHalves-in g s i [] r = absurd (r .first)
-leftHalves-in g s i (p ∷ w) r = Memᴰ·cast (ap (λ x. x ∷ w) (r .first)) (Memᴰ·map (_∷_ s) (onward-in g i (s ∷ []) s w (subst (λ x. Onward g i (x ∷ []) x w) (r .first)
-    (record { linked = r .linked; once = r .once .1; apart = λ x j m. r .once .0 (Memᴰ·cast (sym (List·Memᴰ·eq-of-singleton m)) j); exactly = r .exactly }))))
-
-pub leftHalves-exact : (g : Graph) (s i : ℕ) (l : List ℕ) → l ∈ leftHalves g s i ↔ LeftHalf g s i l
-leftHalves-exact g s i l = (leftHalves-from g s i, leftHalves-in g s i l)
-
-pub leftHalves-rising : (g : Graph) → ((p : ℕ) → Rising _<_ (g p)) → (s i : ℕ) → Rising Before (leftHalves g s i)
-unfolding leftHalves
-leftHalves-rising g rows s i = rising-map s (onward g i (s ∷ []) s) (onward-rising g rows i (s ∷ []) s)
 
 -- the tests
 pub noneAmong-true : (a b : List ℕ) → noneAmong a b ≡ true → (x : ℕ) → x ∈ a → ¬ (x ∈ b)
@@ -249,7 +170,7 @@ glue-longer l l′ (m ∷ h) (m′ ∷ k) x y e r = before-longer h k r e
 pub joined-rising : (g : Graph) → ((p : ℕ) → Rising _<_ (g p)) → (n s t L : ℕ) → Rising Before (joined g n s t L)
 unfolding joined
 joined-rising g rows n s t L =
-    rising-across Before Before _ (leftHalves g s (leftHops L)) (leftHalves-rising g rows s (leftHops L))
+    rising-across Before Before _ (leftHalves g s (leftHops L)) (leftHalves-rising g s (leftHops L) rows)
     (λ l m. rising-by Before Before (glue l) (keep (meets l) H) (rising-keep Before (meets l) H (halfChains-rising g n s t (rightHops L)))
     (λ h k i j r. glue-before l h k (meets-true l h (keep-from (meets l) H i .1)) (meets-true l k (keep-from (meets l) H j .1)) r))
     (λ l l′ m m′ r a b i j. across l l′ m m′ r a b (Memᴰ·of-map (glue l) (keep (meets l) H) i) (Memᴰ·of-map (glue l′) (keep (meets l′) H) j))

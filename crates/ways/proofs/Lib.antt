@@ -13,4 +13,5 @@ pub mod Fewest
 pub mod Records
 pub mod ByHops
 pub mod Halves
+pub mod Onward
 pub mod Join

@@ -81,24 +81,35 @@ rising-flatMap f row r all heads = rising-across _<_ Before f row r (λ x m. all
         let v = heads y b j in
         subst₂ Before (sym (u .1)) (sym (v .1)) (less l)
 
+-- those that begin with v, unless a test forbids it
+module _ (v : ℕ) (M : List (List ℕ)) where
+  pub unless-from : (b : Bool) {c : List ℕ} → c ∈ pick b [] (map (_∷_ v) M) → (b ≡ false) × (w : List ℕ) × (w ∈ M) × (v ∷ w ≡ c)
+  unless-from true m = absurd (List·Memᴰ·not-nil m)
+  unless-from false m = let r = Memᴰ·of-map (_∷_ v) M m in (refl, r .0, r .1, r .2)
+
+  pub unless-heads : (b : Bool) → Heads v (pick b [] (map (_∷_ v) M))
+  unless-heads b c m = let r = unless-from b m in (r .1, sym (r .3))
+
+  pub unless-rising : (b : Bool) → Rising Before M → Rising Before (pick b [] (map (_∷_ v) M))
+  unless-rising true r = tt
+  unless-rising false r = rising-map v M r
+
 -- `by`: all begin with v, and rise
 pub by-heads : (t : ℕ) (seen : List ℕ) (on : List ℕ → ℕ → List (List ℕ)) (v : ℕ) → Heads v (by t seen on v)
 unfolding by
-by-heads t seen on v c m = go (eqb v t) (among v seen) m
+by-heads t seen on v c m = go (eqb v t) m
   where
-    go : (l n : Bool) → c ∈ pick l ((v ∷ []) ∷ []) (pick n [] (map (_∷_ v) (on (v ∷ seen) v))) → (w : List ℕ) × (c ≡ v ∷ w)
-    go true n m = ([], List·Memᴰ·eq-of-singleton m)
-    go false true m = absurd (List·Memᴰ·not-nil m)
-    go false false m = let r = Memᴰ·of-map (_∷_ v) (on (v ∷ seen) v) m in (r .0, sym (r .2))
+    go : (l : Bool) → c ∈ pick l ((v ∷ []) ∷ []) (pick (among v seen) [] (map (_∷_ v) (on (v ∷ seen) v))) → (w : List ℕ) × (c ≡ v ∷ w)
+    go true m = ([], List·Memᴰ·eq-of-singleton m)
+    go false m = unless-heads v (on (v ∷ seen) v) (among v seen) c m
 
 pub by-rising : (t : ℕ) (seen : List ℕ) (on : List ℕ → ℕ → List (List ℕ)) (v : ℕ) → Rising Before (on (v ∷ seen) v) → Rising Before (by t seen on v)
 unfolding by
-by-rising t seen on v r = go (eqb v t) (among v seen)
+by-rising t seen on v r = go (eqb v t)
   where
-    go : (l n : Bool) → Rising Before (pick l ((v ∷ []) ∷ []) (pick n [] (map (_∷_ v) (on (v ∷ seen) v))))
-    go true n = ((λ y m. absurd (List·Memᴰ·not-nil m)), tt)
-    go false true = tt
-    go false false = rising-map v (on (v ∷ seen) v) r
+    go : (l : Bool) → Rising Before (pick l ((v ∷ []) ∷ []) (pick (among v seen) [] (map (_∷_ v) (on (v ∷ seen) v))))
+    go true = ((λ y m. absurd (List·Memᴰ·not-nil m)), tt)
+    go false = unless-rising v (on (v ∷ seen) v) (among v seen) r
 
 module _ (g : Graph) (rows : (p : ℕ) → Rising _<_ (g p)) where
   pub ways-rising : (t k : ℕ) (seen : List ℕ) (p : ℕ) → Rising Before (ways g t k seen p)

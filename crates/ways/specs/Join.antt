@@ -25,14 +25,14 @@ pub record LeftHalf (g : Graph) (s i : ℕ) (l : List ℕ) : Type 0 where
   pub once : Distinct l
   pub exactly : hops l ≡ i
 
--- all simple sequences of exactly i hops on from p that pass nobody seen, in dictionary order
-unfoldable pub onward : Graph → ℕ → List ℕ → ℕ → List (List ℕ)
-onward g zero seen p = [] ∷ []
-onward g (suc i) seen p = flatMap (λ v. pick (among v seen) [] (map (_∷_ v) (onward g i (v ∷ seen) v))) (g p)
+-- all simple sequences of exactly i hops on from p that pass nobody seen and end as the test says, in dictionary order
+unfoldable pub onward : Graph → (ℕ → Bool) → ℕ → List ℕ → ℕ → List (List ℕ)
+onward g ends zero seen p = pick (ends p) ([] ∷ []) []
+onward g ends (suc i) seen p = flatMap (λ v. pick (among v seen) [] (map (_∷_ v) (onward g ends i (v ∷ seen) v))) (g p)
 
--- the left halves of exactly i hops, in dictionary order
+-- the left halves of exactly i hops, in dictionary order: they may end anywhere
 unfoldable pub leftHalves : Graph → ℕ → ℕ → List (List ℕ)
-leftHalves g s i = map (_∷_ s) (onward g i (s ∷ []) s)
+leftHalves g s i = map (_∷_ s) (onward g (λ p. true) i (s ∷ []) s)
 
 -- "they share only the middle person": h starts where l ends, and nobody behind that person stands in l
 abbrev pub Meets : List ℕ → List ℕ → Type 0
