@@ -16,7 +16,7 @@ use Rattle.ways.specs.ByHops.{Sooner}
 use Rattle.ways.specs.Halves.{HalfChain, personsBelow, extends, halfChains, halves}
 use Rattle.ways.proofs.Members.{flatMap-in, flatMap-from, among-true, mem-among, among-false, out-among, out, keep-from, keep-in}
 use Rattle.ways.proofs.Rising.{rising-append, only, rising-keep}
-use Rattle.ways.proofs.Ordered.{rising-flatMap, unless-from, unless-heads, unless-rising}
+use Rattle.ways.proofs.Ordered.{unless-from, unless-row}
 use Rattle.ways.proofs.ByHops.{sooner-asym, shorterFirst-from, shorterFirst-in, shorterFirst-rising}
 
 -- the persons of a file
@@ -61,10 +61,7 @@ true-extends g p q h m o = rw (mem-among m, out-among o)
 pub halfChains-rising : (g : Graph) (n s t j : ℕ) → Rising Before (halfChains g n s t j)
 unfolding halfChains
 halfChains-rising g n s t zero = ((λ y m. absurd (List·Memᴰ·not-nil m)), tt)
-halfChains-rising g n s t (suc j) =
-    rising-flatMap _ (personsBelow n) (persons-rising n)
-    (λ p. unless-rising p (keep (extends g p) (halfChains g n s t j)) (eqb p s) (rising-keep Before (extends g p) (halfChains g n s t j) (halfChains-rising g n s t j)))
-    (λ p. unless-heads p (keep (extends g p) (halfChains g n s t j)) (eqb p s))
+halfChains-rising g n s t (suc j) = unless-row (λ p. eqb p s) (λ p. keep (extends g p) (halfChains g n s t j)) (personsBelow n) (persons-rising n) (λ p. rising-keep Before (extends g p) (halfChains g n s t j) (halfChains-rising g n s t j))
 
 -- exact: just the half chains of j hops, in a file that has n persons
 module _ (g : Graph) (n s t : ℕ) (apart : s ≢ t) where

@@ -18,7 +18,7 @@ use Rattle.ways.proofs.Members.{flatMap-in, flatMap-from, among-false, 
 use Rattle.ways.proofs.Cut.{lastOr-last, last-lastOr}
 use Rattle.ways.proofs.Way.{ends}
 use Rattle.ways.proofs.Rising.{only}
-use Rattle.ways.proofs.Ordered.{before-asym, rising-map, rising-flatMap, unless-from, unless-heads, unless-rising}
+use Rattle.ways.proofs.Ordered.{before-asym, rising-map, unless-from, unless-row}
 use Rattle.ways.proofs.Halves.{below-persons, persons-rising, halfChains-rising, halfChains-from, halfChains-in}
 
 -- w leads on from p by exactly i hops, is simple, passes nobody seen, and ends as the test says
@@ -69,10 +69,7 @@ module _ (g : Graph) (ends : ℕ → Bool) where
       go : (b : Bool) → Rising Before (pick b ([] ∷ []) [])
       go true = ((λ y m. absurd (List·Memᴰ·not-nil m)), tt)
       go false = tt
-  onward-rising rows (suc i) seen p =
-      rising-flatMap _ (g p) (rows p)
-      (λ v. unless-rising v (onward g ends i (v ∷ seen) v) (among v seen) (onward-rising rows i (v ∷ seen) v))
-      (λ v. unless-heads v (onward g ends i (v ∷ seen) v) (among v seen))
+  onward-rising rows (suc i) seen p = unless-row (λ v. among v seen) (λ v. onward g ends i (v ∷ seen) v) (g p) (rows p) (λ v. onward-rising rows i (v ∷ seen) v)
 
 -- left halves
 module _ (g : Graph) (s i : ℕ) where
@@ -107,7 +104,7 @@ module _ (g : Graph) (rows : (p : ℕ) → Rising _<_ (g p)) (n : ℕ) (low : (p
       (λ h m. from h (flatMap-from _ (personsBelow n) m))
     where
       rises : Rising Before (flatMap (λ p. pick (eqb p s) [] (map (_∷_ p) (begun p))) (personsBelow n))
-      rises = rising-flatMap _ (personsBelow n) (persons-rising n) (λ p. unless-rising p (begun p) (eqb p s) (onward-rising g (λ q. eqb q t) rows j (p ∷ s ∷ []) p)) (λ p. unless-heads p (begun p) (eqb p s))
+      rises = unless-row (λ p. eqb p s) begun (personsBelow n) (persons-rising n) (λ p. onward-rising g (λ q. eqb q t) rows j (p ∷ s ∷ []) p)
 
       below : (p : ℕ) (w : List ℕ) → Linked g (p ∷ w) → Last t (p ∷ w) → p < n
       below p [] l e = omega (arith, e)

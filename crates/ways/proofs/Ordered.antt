@@ -94,6 +94,10 @@ module _ (v : ℕ) (M : List (List ℕ)) where
   unless-rising true r = tt
   unless-rising false r = rising-map v M r
 
+-- so for each person of a rising row
+pub unless-row : (f : ℕ → Bool) (M : ℕ → List (List ℕ)) (row : List ℕ) → Rising _<_ row → ((v : ℕ) → Rising Before (M v)) → Rising Before (flatMap (λ v. pick (f v) [] (map (_∷_ v) (M v))) row)
+unless-row f M row r all = rising-flatMap _ row r (λ v. unless-rising v (M v) (f v) (all v)) (λ v. unless-heads v (M v) (f v))
+
 -- `by`: all begin with v, and rise
 pub by-heads : (t : ℕ) (seen : List ℕ) (on : List ℕ → ℕ → List (List ℕ)) (v : ℕ) → Heads v (by t seen on v)
 unfolding by
