@@ -26,7 +26,7 @@ after-none b [] h = refl
 after-none b (c ∷ L) h = rw (false-before b c (h c (List·Memᴰ·head refl))) (after-none b L (λ d m. h d (List·Memᴰ·tail m)))
 
 -- those that pass the test `before b`
-after-keep : (b : List ℕ) (L : List (List ℕ)) → after b L ≡ keep (before b) L
+pub after-keep : (b : List ℕ) (L : List (List ℕ)) → after b L ≡ keep (before b) L
 unfolding after keep
 after-keep b [] = refl
 after-keep b (c ∷ L) = rw (after-keep b L)

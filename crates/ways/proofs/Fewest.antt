@@ -130,6 +130,17 @@ module _ (g : Graph) (t : ℕ) where
       go (yes l) = in-fewest k l (link m (fewest-up-to k v .reach (omega arith)))
       go (no n) = let c = fewest-cap k u in omega arith
 
+  -- a round of a table: one of the fewest hops that is left over is one more than that of a person next to him, and each is so
+  pub fewest-suc : (k h p v : ℕ) → v ∈ g p → fewest g t k v ≡ h → h < fewest g t k p → fewest g t k p ≡ suc h
+  fewest-suc k h p v m e l = omega (arith, fewest-link k p v m)
+
+  pub fewest-next : (k h p : ℕ) → fewest g t k p ≡ suc h → h < k → (v : ℕ) × (v ∈ g p) × (fewest g t k v ≡ h)
+  fewest-next k h p e l = go (fewest-in k (suc h) p l (omega arith))
+    where
+      go : Reach g t (suc h) p → (v : ℕ) × (v ∈ g p) × (fewest g t k v ≡ h)
+      go (here i) = absurd (omega (arith, fewest-end k p i))
+      go (link {v = v} m r) = (v, m, omega (arith, fewest-link k p v m, in-fewest k (let i : h ≤ k = omega arith in i) r))
+
   -- fewer hops than the fewest: no way, whoever was seen
   pub none-fewest : (k j p : ℕ) (seen : List ℕ) → j < fewest g t k p → ways g t j seen p ≡ []
   none-fewest k j p seen l = none-near g t j p seen (fewest-up-to k p .least j l)

@@ -3,17 +3,19 @@ use mathlib.Core.Path.{_≡_, refl, sym, ap, subst}
 use mathlib.Core.Logic.{_≢_, _↔_, _⊎_, inl, inr}
 use mathlib.Core.Bool.{Bool, true, false, false≢true}
 use mathlib.Core.List.{List, [], _∷_, _++_, map, List·Memᴰ·head, List·Memᴰ·tail, List·Memᴰ·not-nil, List·Memᴰ·append-cases, List·Memᴰ·eq-of-singleton, Memᴰ·append-left, Memᴰ·append-right, Memᴰ·map}
-use Prim.Native.Nat.{ℕ, zero, suc, _+_, _/_, _≤_, _<_}
+use Prim.Native.Nat.{ℕ, zero, suc, _+_, _*_, _/_, _≤_, _<_}
 use native.Mathlib.Omega.{arith}
+use native.Mathlib.Nat.{le-div-iff-mul-le}
 use native.Mathlib.Decide.{decLt}
+use lib.ListN.{length}
 use lib.Dec.{eqb}
-use borrow.Author.Tests.{eqb-false, ne-eqb}
+use borrow.Author.Tests.{eqb-false, ne-eqb, leb-true, le-leb}
 use Rattle.ways.specs.Graph.{Graph, _∈_, pick, among, keep}
 use Rattle.ways.specs.Chain.{hops}
 use Rattle.ways.specs.Order.{Before, Rising}
 use Rattle.ways.specs.Records.{Fits}
 use Rattle.ways.specs.ByHops.{Sooner}
-use Rattle.ways.specs.Halves.{HalfChain, personsBelow, extends, halfChains, halves}
+use Rattle.ways.specs.Halves.{HalfChain, personsBelow, extends, halfChains, halves, halvesFit}
 use Rattle.ways.proofs.Members.{flatMap-in, flatMap-from, among-true, mem-among, among-false, out-among, out, keep-from, keep-in}
 use Rattle.ways.proofs.Rising.{rising-append, only, rising-keep}
 use Rattle.ways.proofs.Ordered.{unless-from, unless-row}
@@ -112,9 +114,13 @@ module _ (g : Graph) (n s t : ℕ) (apart : s ≢ t) where
     halves-determined k H r i = only Sooner (λ a b. sooner-asym) H (halves g n s t k) r (halves-ordered k) (λ h m. halves-exact k h .1 (i h .0 m)) (λ h m. i h .1 (halves-exact k h .0 m))
 
     -- a half chain has a record
-    pub halves-fit : (k size : ℕ) → k / 2 + 2 ≤ size → (h : List ℕ) → h ∈ halves g n s t k → Fits size h
-    halves-fit k size l h m = let r = halves-exact k h .0 m in go h (r .0) (r .1)
+    pub half-fits : (k size : ℕ) → k / 2 + 2 ≤ size → (h : List ℕ) → h ∈ halves g n s t k → Fits size h
+    half-fits k size l h m = let r = halves-exact k h .0 m in go h (r .0) (r .1)
       where
         go : (h : List ℕ) → HalfChain g s t (hops h) h → hops h ≤ k / 2 → Fits size h
         go [] r i = absurd (r .last)
         go (p ∷ h) r i = record { some = omega arith; room = omega arith }
+
+-- refusal 18: none just where the working cells are as many as the records of the half chains together
+pub halvesFit-iff : (size cells : ℕ) (H : List (List ℕ)) → 0 < size → (halvesFit size cells H ≡ true) ↔ (length H * size ≤ cells)
+halvesFit-iff size cells H z = ((λ e. le-div-iff-mul-le z .0 (leb-true (length H) (cells / size) e)), (λ l. le-leb (length H) (cells / size) (le-div-iff-mul-le z .1 l)))

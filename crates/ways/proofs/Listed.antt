@@ -1,7 +1,7 @@
 -- `listing` holds every chain and nothing else.
 use mathlib.Core.Path.{_≡_, refl, sym, ap, subst, _∙_}
 use mathlib.Core.Logic.{_≢_, _↔_, _⊎_, inl, inr}
-use mathlib.Core.List.{List, [], _∷_, tail-eq-of-cons-eq, List·Memᴰ·head, List·Memᴰ·tail, List·Memᴰ·not-nil, List·Memᴰ·cases-cons, List·Memᴰ·eq-of-singleton, Memᴰ·map, Memᴰ·of-map, Memᴰ·cast}
+use mathlib.Core.List.{List, [], _∷_, _++_, tail-eq-of-cons-eq, List·Memᴰ·head, List·Memᴰ·tail, List·Memᴰ·not-nil, List·Memᴰ·cases-cons, List·Memᴰ·eq-of-singleton, Memᴰ·map, Memᴰ·of-map, Memᴰ·cast}
 use Prim.Native.Nat.{ℕ, zero, suc, _≤_}
 use native.Mathlib.Omega.{arith}
 use lib.ListN.{length}
@@ -9,6 +9,7 @@ use Rattle.ways.specs.Graph.{Graph, _∈_}
 use Rattle.ways.specs.Chain.{Last, Linked, Distinct, Chain}
 use Rattle.ways.specs.Listing.{ways, listing}
 use Rattle.ways.proofs.Members.{out}
+use Rattle.ways.proofs.Cut.{last-right, distinct-apart}
 use Rattle.ways.proofs.Way.{Way, ends, goes, way-in, way-from}
 
 -- a chain from p on, without p, that passes nobody seen
@@ -82,3 +83,8 @@ pub no-chain : (g : Graph) (s k : ℕ) (c : List ℕ) → ¬ Chain g s s k c
 no-chain g s k [] h = h .first
 no-chain g s k (p ∷ []) h = omega arith
 no-chain g s k (p ∷ q ∷ c) h = h .once .0 (Memᴰ·cast (h .first) (last-in (q ∷ c) (h .last)))
+
+-- "No chain is a beginning of another."
+pub no-beginning : (g : Graph) (s t k : ℕ) (c d : List ℕ) → Chain g s t k c → Chain g s t k (c ++ d) → d ≡ []
+no-beginning g s t k c [] h i = refl
+no-beginning g s t k c (x ∷ d) h i = absurd (distinct-apart (x ∷ d) (last-in c (h .last)) (i .once) (last-in (x ∷ d) (last-right t x c d (i .last))))

@@ -5,6 +5,7 @@ use mathlib.Core.Bool.{Bool, true, false, false≢true}
 use mathlib.Core.List.{List, [], _∷_, _++_, append-assoc, cons≢nil, List·Memᴰ·head, List·Memᴰ·tail, Memᴰ·of-map, Memᴰ·cast}
 use Prim.Native.Nat.{ℕ, suc, _+_, _-_, _*_, _≤_, _<_}
 use native.Mathlib.Omega.{arith}
+use native.Mathlib.Nat.{div-mul-le-self}
 use lib.ListN.{length, take, drop, replicate, length-append, length-drop, length-replicate, take-append-drop}
 use lib.Seq.{take-at, drop-at, drop-append-seam, length-take-le}
 use lib.Dec.{eqb}
@@ -12,7 +13,7 @@ use borrow.Author.Tests.{eqb-true, eq-eqb}
 use Rattle.ways.specs.Graph.{Graph, _∈_, pick}
 use Rattle.ways.specs.Chain.{hops, Chain}
 use Rattle.ways.specs.Listing.{ways, listing}
-use Rattle.ways.specs.Records.{recordOf, chainOf, Fits, Shaped, cellsOf, written, sameCells, isRecordIn}
+use Rattle.ways.specs.Records.{recordOf, chainOf, Fits, Shaped, cellsOf, roomOf, written, sameCells, isRecordIn}
 use Rattle.ways.proofs.Way.{Way, ends, goes, way-from}
 use Rattle.ways.proofs.Listed.{exact}
 
@@ -123,6 +124,10 @@ module _ (size : ℕ) where
       let front : recordOf size c ≡ recordOf size d = sym (take-at (recordOf size c) (cellsOf size L) size lc) ∙ ap (take size) e ∙ take-at (recordOf size d) (cellsOf size M) size ld in
       let back : cellsOf size L ≡ cellsOf size M = sym (drop-at (recordOf size c) (cellsOf size L) size lc) ∙ ap (drop size) e ∙ drop-at (recordOf size d) (cellsOf size M) size ld in
       ap₂ _∷_ (recordOf-only size c d (x .some) (y .some) front) (cellsOf-only L M (λ b m. f b (List·Memᴰ·tail m)) (λ b m. h b (List·Memᴰ·tail m)) back)
+
+-- the room for records is in the cells
+pub room-within : (size cells : ℕ) → roomOf size cells * size ≤ cells
+room-within size cells = div-mul-le-self cells size
 
 -- the tests
 pub sameCells-true : (a b : List ℕ) → sameCells a b ≡ true → a ≡ b
