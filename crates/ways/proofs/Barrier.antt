@@ -23,7 +23,7 @@ way-more {k = suc k} h i (ends m e) = ends m e
 way-more {k = zero} h i (goes m n o r) = absurd (omega arith)
 way-more {k = suc k} h i (goes {k = j} {v = v} m n o r) = let l : j ≤ k = omega arith in goes m n (λ q. o (i v q)) (way-more l (within-cons v i) r)
 
--- a way is one within as many hops as it has
+-- a way is a way within as many hops as it has
 pub way-cut : {g : Graph} {t j k p : ℕ} {seen w : List ℕ} → Way g t k seen p w → length w ≤ j → Way g t j seen p w
 way-cut {j = zero} (ends m e) l = absurd (omega arith)
 way-cut {j = suc j} (ends m e) l = ends m e
@@ -40,7 +40,7 @@ none-hops g t j k p seen h = none-more g t j k p seen seen h (λ x m. m)
 pub none-seen : (g : Graph) (t k p u : ℕ) (seen : List ℕ) → ways g t k seen p ≡ [] → ways g t k (u ∷ seen) p ≡ []
 none-seen g t k p u seen = none-more g t k k p (u ∷ seen) seen (omega arith) (λ x m. List·Memᴰ·tail m)
 
--- A way through v holds a way from v that is shorter and passes nobody seen
+-- a way through v holds a way from v that is shorter and passes nobody seen
 pub way-through : {g : Graph} {t j p v : ℕ} {seen w : List ℕ} → Way g t j seen p w → v ∈ w → v ≢ t → (i : ℕ) × (u : List ℕ) × (i < j) × Way g t i (v ∷ seen) v u
 way-through (ends m e) q n = absurd (n (List·Memᴰ·eq-of-singleton q ∙ e))
 way-through {g} {t} {v = v} (goes {k = k} {v = x} {seen = seen} {w = w} m o s r) q n = step (λ i. way-through r i n) (List·Memᴰ·cases-cons q)
@@ -61,7 +61,7 @@ way-avoid (ends m e) a = ends m e
 way-avoid {v = v} (goes {k = k} {v = x} {seen = seen} m n o r) a =
     goes m n (out (λ e. n (e ∙ a (List·Memᴰ·head (sym e)))) o) (way-more (le-refl k) (swap x v seen) (way-avoid r (λ q. a (List·Memᴰ·tail q))))
 
--- the pop law
+-- the pop law: a person left with nothing found releases nothing. v has no way on within h hops, and u none within j while v was seen: then u has none without v
 pub pop : (g : Graph) (t h j u v : ℕ) (seen S : List ℕ) → j ≤ suc h → Within seen S → ways g t h (v ∷ seen) v ≡ [] → ways g t j (v ∷ S) u ≡ [] → ways g t j S u ≡ []
 pop g t h j u v seen S l i a b = none g t j u S (λ w r. go w r (ℕ-discrete v t) (among v w) refl)
   where
@@ -74,7 +74,7 @@ pop g t h j u v seen S l i a b = none g t j u S (λ w r. go w r (ℕ-discrete v 
 pub pop-on : (g : Graph) (t h j u v : ℕ) (seen : List ℕ) → j ≤ suc h → ways g t h (v ∷ seen) v ≡ [] → ways g t j (u ∷ v ∷ seen) u ≡ [] → ways g t j (u ∷ seen) u ≡ []
 pop-on g t h j u v seen l a b = pop g t h j u v seen (u ∷ seen) l (λ x m. List·Memᴰ·tail m) a (none-more g t j j u (v ∷ u ∷ seen) (u ∷ v ∷ seen) (omega arith) (swap u v seen) b)
 
--- Only who has been seen counts
+-- who was seen counts only as a set
 pub same-seen : (g : Graph) (t k p : ℕ) (a b : List ℕ) → ((x : ℕ) → among x a ≡ among x b) → ways g t k a p ≡ ways g t k b p
 unfolding ways by among
 same-seen g t zero p a b h = refl
@@ -90,7 +90,7 @@ same-members g t k p a b f h = same-seen g t k p a b (λ x. go x (among x b) ref
     go x true e = mem-among (h x (among-true x b e)) ∙ sym e
     go x false e = out-among (λ m. among-false e (f x m)) ∙ sym e
 
--- Numbers that fall by at most one along each link among the persons outside S, and are 0 at t, tell of too few hops
+-- numbers that fall by at most one along each link among the persons outside S, and are 0 at t, tell of too few hops
 pub way-steps : {g : Graph} {t : ℕ} (b : ℕ → ℕ) (S : List ℕ) → b t ≡ 0
     → ((u v : ℕ) → ¬ (u ∈ S) → v ∈ g u → (v ≡ t) ⊎ ¬ (v ∈ S) → b u ≤ suc (b v))
     → {j p : ℕ} {seen w : List ℕ} → Way g t j seen p w → Within S seen → ¬ (p ∈ S) → b p ≤ j

@@ -4,10 +4,10 @@ use mathlib.Core.Logic.{_⊎_, inl, inr}
 use mathlib.Core.List.{List, [], _∷_, _++_, List·Memᴰ·head, List·Memᴰ·tail, List·Memᴰ·append-cases, Memᴰ·append-left, Memᴰ·append-right, Memᴰ·cast}
 use Prim.Native.Nat.{ℕ}
 use Rattle.ways.specs.Graph.{Graph, _∈_}
-use Rattle.ways.specs.Chain.{First, Last, Linked, Distinct}
+use Rattle.ways.specs.Chain.{Last, Linked, Distinct}
 use Rattle.ways.specs.Portions.{lastOr}
 
--- a walk that is cut at one of its persons
+-- links and last person, left and right of u
 pub linked-left : (g : Graph) (u : ℕ) (lo hi : List ℕ) → Linked g (lo ++ u ∷ hi) → Linked g (lo ++ (u ∷ []))
 linked-left g u [] hi l = tt
 linked-left g u (p ∷ []) hi l = (l .0, tt)
@@ -28,14 +28,6 @@ last-snoc u [] = refl
 last-snoc u (p ∷ []) = refl
 last-snoc u (p ∷ q ∷ lo) = last-snoc u (q ∷ lo)
 
-pub first-left : (s u : ℕ) (lo hi : List ℕ) → First s (lo ++ u ∷ hi) → First s (lo ++ (u ∷ []))
-first-left s u [] hi f = f
-first-left s u (p ∷ lo) hi f = f
-
-pub first-append : (s u : ℕ) (lo hi : List ℕ) → First s (lo ++ (u ∷ [])) → First s (lo ++ u ∷ hi)
-first-append s u [] hi f = f
-first-append s u (p ∷ lo) hi f = f
-
 -- the last stands behind the others
 pub last-part : (t : ℕ) (l : List ℕ) → Last t l → (lo : List ℕ) × (l ≡ lo ++ (t ∷ []))
 last-part t [] h = absurd h
@@ -54,6 +46,7 @@ pub last-only : (t u : ℕ) (l : List ℕ) → Last t l → Last u l → t ≡ u
 last-only t u [] h i = absurd h
 last-only t u (p ∷ l) h i = sym (last-lastOr t p l h) ∙ last-lastOr u p l i
 
+-- and together
 pub linked-append : (g : Graph) (u : ℕ) (lo hi : List ℕ) → Linked g (lo ++ (u ∷ [])) → Linked g (u ∷ hi) → Linked g (lo ++ u ∷ hi)
 linked-append g u [] hi l r = r
 linked-append g u (p ∷ []) hi l r = (l .0, r)

@@ -18,6 +18,7 @@ use Rattle.ways.proofs.Members.{mem-split}
 use Rattle.ways.proofs.Cut.{linked-left, linked-right, last-right, last-snoc}
 use Rattle.ways.proofs.Reach.{reach-more, none-near}
 
+-- the lowest of some numbers
 pub lowest-some : (cap h : ℕ) (ds : List ℕ) → h < cap → lowest cap ds ≤ h → (d : ℕ) × (d ∈ ds) × (d ≤ h)
 lowest-some cap h [] l e = absurd (omega arith)
 lowest-some cap h (d ∷ ds) l e = go (decLe d h) (λ i. lowest-some cap h ds l i)
@@ -130,7 +131,7 @@ module _ (g : Graph) (t : ℕ) where
       go (yes l) = in-fewest k l (link m (fewest-up-to k v .reach (omega arith)))
       go (no n) = let c = fewest-cap k u in omega arith
 
-  -- a round of a table: one of the fewest hops that is left over is one more than that of a person next to him, and each is so
+  -- the rounds of a table: whoever is left over when a person next to him has h hops has one more; and nobody has his number otherwise
   pub fewest-suc : (k h p v : ℕ) → v ∈ g p → fewest g t k v ≡ h → h < fewest g t k p → fewest g t k p ≡ suc h
   fewest-suc k h p v m e l = omega (arith, fewest-link k p v m)
 

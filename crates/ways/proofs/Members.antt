@@ -54,7 +54,7 @@ out-among {p} {l} n = go (among p l) refl
     go true h = absurd (n (among-true p l h))
     go false h = h
 
--- not in v ∷ l
+-- neither v nor in l
 pub out : {x v : ℕ} {l : List ℕ} → x ≢ v → ¬ (x ∈ l) → ¬ (x ∈ v ∷ l)
 out n o (List·Memᴰ·head e) = n e
 out n o (List·Memᴰ·tail m) = o m
@@ -72,7 +72,7 @@ swap u v l x (List·Memᴰ·head e) = List·Memᴰ·tail (List·Memᴰ·head e)
 swap u v l x (List·Memᴰ·tail (List·Memᴰ·head e)) = List·Memᴰ·head e
 swap u v l x (List·Memᴰ·tail (List·Memᴰ·tail m)) = List·Memᴰ·tail (List·Memᴰ·tail m)
 
--- rows below x, rows above x
+-- a row in two parts
 pub flatMap-append : (f : ℕ → List (List ℕ)) (l m : List ℕ) → flatMap f (l ++ m) ≡ flatMap f l ++ flatMap f m
 unfolding flatMap
 flatMap-append f [] m = refl

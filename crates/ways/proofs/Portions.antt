@@ -16,6 +16,7 @@ use Rattle.ways.proofs.Members.{take-in}
 use Rattle.ways.proofs.Ordered.{before-asym, false-before, ordered}
 use Rattle.ways.proofs.After.{after-all, after-none, after-from, after-in, after-rising, after-after, after-part}
 
+-- the last one, or what stood before
 module _ {A : Type 0} where
   pub lastOr-append : (b : A) (l m : List A) → lastOr b (l ++ m) ≡ lastOr (lastOr b l) m
   lastOr-append b [] m = refl
@@ -112,6 +113,9 @@ module _ (g : Graph) (rows : (p : ℕ) → Rising _<_ (g p)) (s t k : ℕ) where
 
   pub portions : (rooms : List ℕ) → laid rooms [] (listing g s t k) ≡ take (total rooms) (listing g s t k)
   portions = laid-all (listing g s t k) (ordered g rows s t k) real-chains
+
+  pub portions-after : (b : List ℕ) (rooms : List ℕ) → laid rooms b (listing g s t k) ≡ take (total rooms) (after b (listing g s t k))
+  portions-after = laid-after (listing g s t k) (ordered g rows s t k)
 
   pub portions-rest : (rooms : List ℕ) → after (left rooms [] (listing g s t k)) (listing g s t k) ≡ drop (total rooms) (listing g s t k)
   portions-rest = left-all (listing g s t k) (ordered g rows s t k) real-chains

@@ -9,6 +9,7 @@ use native.Mathlib.Decide.{ℕ-discrete, decLe}
 use Rattle.ways.specs.Graph.{Graph, _∈_}
 use Rattle.ways.specs.Listing.{ways}
 use Rattle.ways.specs.Fewest.{Reach, here, link, Fewest}
+use Rattle.ways.proofs.Members.{Within}
 use Rattle.ways.proofs.Way.{Way, ends, goes, no-way, none}
 use Rattle.ways.proofs.Barrier.{way-more}
 
@@ -89,14 +90,14 @@ module _ (g : Graph) (t : ℕ) where
       go r (yes l) = l
       go r (no n) = absurd (f .least h (omega arith) r)
 
-  -- Nobody has a way within fewer hops than the fewest
+  -- nobody has a way within fewer hops than the fewest
   pub none-near : (j p : ℕ) (seen : List ℕ) → ¬ Reach g t j p → ways g t j seen p ≡ []
   none-near j p seen n = none g t j p seen (λ w r. n (way-reach r))
 
   pub none-fewer : (d j p : ℕ) (seen : List ℕ) → Fewest g t d p → j < d → ways g t j seen p ≡ []
   none-fewer d j p seen f l = none-near j p seen (f .least j l)
 
-  -- A walk of the fewest hops passes nobody twice: it passes persons ever nearer to t, and none of those seen, who are farther
+  -- a walk of the fewest hops passes nobody twice: it passes persons ever nearer to t, and none of those seen, who are farther
   pub short-way : (h p : ℕ) (seen : List ℕ) → Reach g t (suc h) p → ¬ Reach g t h p → ((x : ℕ) → x ∈ seen → ¬ Reach g t h x) → (w : List ℕ) × Way g t (suc h) seen p w
   short-way h p seen (here e) n far = absurd (n (here e))
   short-way zero p seen (link {v = v} m r) n far = (v ∷ [], ends m (round-zero g t v .0 r))
@@ -122,19 +123,18 @@ module _ (g : Graph) (t : ℕ) where
           (w .0, way-more l (λ x m. m) (w .1))
 
   -- t is in reach of p within h just where there is a way, past p or not
-  pub reach-iff : (h p : ℕ) → p ≢ t → Reach g t h p ↔ (ways g t h (p ∷ []) p ≢ [])
-  reach-iff h p n = (λ r e. let w = reach-way h p n r in no-way e (w .0) (w .1), λ i. go i (dec-reach g t h p))
+  pub reach-within : (h p : ℕ) (seen : List ℕ) → Within seen (p ∷ []) → p ≢ t → Reach g t h p ↔ (ways g t h seen p ≢ [])
+  reach-within h p seen i n = (λ r e. let w = reach-way h p n r in no-way e (w .0) (way-more (le-refl h) i (w .1)), λ q. go q (dec-reach g t h p))
     where
-      go : ways g t h (p ∷ []) p ≢ [] → Dec (Reach g t h p) → Reach g t h p
-      go i (yes r) = r
-      go i (no o) = absurd (i (none-near h p (p ∷ []) o))
+      go : ways g t h seen p ≢ [] → Dec (Reach g t h p) → Reach g t h p
+      go q (yes r) = r
+      go q (no o) = absurd (q (none-near h p seen o))
+
+  pub reach-iff : (h p : ℕ) → p ≢ t → Reach g t h p ↔ (ways g t h (p ∷ []) p ≢ [])
+  reach-iff h p = reach-within h p (p ∷ []) (λ x m. m)
 
   pub reach-iff-nil : (h p : ℕ) → p ≢ t → Reach g t h p ↔ (ways g t h [] p ≢ [])
-  reach-iff-nil h p n = (λ r e. let w = reach-way h p n r in no-way e (w .0) (way-more (le-refl h) (λ x m. absurd (List·Memᴰ·not-nil m)) (w .1)), λ i. go i (dec-reach g t h p))
-    where
-      go : ways g t h [] p ≢ [] → Dec (Reach g t h p) → Reach g t h p
-      go i (yes r) = r
-      go i (no o) = absurd (i (none-near h p [] o))
+  reach-iff-nil h p = reach-within h p [] (λ x m. absurd (List·Memᴰ·not-nil m))
 
 -- numbers that are 0 at t and fall by at most one along each link are at most the fewest hops: all that leaving out needs of them
 pub reach-steps : {g : Graph} {t : ℕ} (b : ℕ → ℕ) → b t ≡ 0 → ((u v : ℕ) → v ∈ g u → b u ≤ suc (b v)) → {j p : ℕ} → Reach g t j p → b p ≤ j

@@ -14,6 +14,7 @@ Steps R [] = Unit {0}
 Steps R (x ∷ []) = Unit {0}
 Steps R (x ∷ y ∷ l) = R x y × Steps R (y ∷ l)
 
+-- one list after another, neighbours, and what the members tell
 module _ {A : Type 0} (R : A → A → Type 0) where
   pub rising-append : (l m : List A) → Rising R l → Rising R m → ((x y : A) → x ∈ l → y ∈ m → R x y) → Rising R (l ++ m)
   rising-append [] m r q h = q
@@ -68,6 +69,7 @@ module _ {A : Type 0} (R : A → A → Type 0) where
         right z i (inl e) = absurd (irr (sym eq ∙ sym e) (q .0 z i))
         right z i (inr j) = j
 
+-- below x and above x
 pub rising-below : {A : Type 0} (R : A → A → Type 0) {x : A} {lo : List A} (hi : List A) {y : A} → y ∈ lo → Rising R (lo ++ x ∷ hi) → R y x
 rising-below R {x} hi (List·Memᴰ·head {xs = l} e) r = subst (λ z. R z x) (sym e) (r .0 x (Memᴰ·append-right l (List·Memᴰ·head refl)))
 rising-below R hi (List·Memᴰ·tail m) r = rising-below R hi m (r .1)

@@ -58,7 +58,7 @@ way-from g t (suc k) p seen {w} m = step (λ v u n. way-from g t k v (v ∷ seen
     step : On → (v : ℕ) × (v ∈ g p) × (w ∈ by t seen (ways g t k) v) → Way g t (suc k) seen p w
     step on r = last (r .0) (r .1) (by-from t (r .0) seen (ways g t k) (r .2)) on
 
--- no way, or one
+-- no way, and an empty list of ways
 pub no-way : {g : Graph} {t k p : ℕ} {seen : List ℕ} → ways g t k seen p ≡ [] → (w : List ℕ) → ¬ Way g t k seen p w
 no-way e w r = List·Memᴰ·not-nil (subst (λ l. w ∈ l) e (way-in r))
 

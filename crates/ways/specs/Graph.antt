@@ -4,7 +4,7 @@ use mathlib.Core.List.{List, [], _∷_, List·Memᴰ}
 use Prim.Native.Nat.{ℕ}
 use lib.Dec.{eqb}
 
--- "each next one reached by an admitted link": the persons that a person's admitted links lead to
+-- the persons that a person's admitted links lead to. A law that needs these rows to rise, or the persons to be below n, says so.
 abbrev pub Graph : Type 0
 Graph = ℕ → List ℕ
 

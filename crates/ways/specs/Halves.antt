@@ -24,13 +24,13 @@ unfoldable pub personsBelow : ℕ → List ℕ
 personsBelow zero = []
 personsBelow (suc n) = personsBelow n ++ (n ∷ [])
 
--- whether a link of p leads to the first of h, and p does not stand in h: then p ∷ h goes on being simple
+-- whether p may stand in front of h: a link of p leads to the first of h, and p does not stand in h
 unfoldable pub extends : Graph → ℕ → List ℕ → Bool
 extends g p [] = false
 extends g p (q ∷ h) = pick (among q (g p)) (pick (among p (q ∷ h)) false true) false
 
 -- "Half chains are built by a recursion on their hops": those of exactly j hops, in dictionary order.
--- (To) alone has none; and each person but From stands in front of those of one hop fewer that he extends.
+-- (To) alone has no hop; for one hop more, each person but From is put in front of those before whom he may stand.
 unfoldable pub halfChains : Graph → ℕ → ℕ → ℕ → ℕ → List (List ℕ)
 halfChains g n s t zero = (t ∷ []) ∷ []
 halfChains g n s t (suc j) = flatMap (λ p. pick (eqb p s) [] (map (_∷_ p) (keep (extends g p) (halfChains g n s t j)))) (personsBelow n)
