@@ -1,0 +1,126 @@
+-- What follows a bookmark: through the rows of the graph, and in the listing.
+use mathlib.Core.Path.{_≡_, refl, sym, ap, subst, _∙_}
+use mathlib.Core.Logic.{_≢_, _⊎_, inl, inr}
+use mathlib.Core.Bool.{Bool, true, false, true≢false}
+use mathlib.Core.List.{List, [], _∷_, _++_, map, flatMap, List·Memᴰ·head, List·Memᴰ·tail}
+use Prim.Native.Nat.{ℕ, suc, _<_}
+use native.Mathlib.Omega.{arith}
+use borrow.Author.Tests.{eq-eqb, ne-eqb, le-ltb}
+use Rattle.ways.specs.Graph.{Graph, _∈_, pick, keep}
+use Rattle.ways.specs.Order.{Before, less, same, before, Rising}
+use Rattle.ways.specs.Listing.{by, ways, listing}
+use Rattle.ways.specs.Portions.{after}
+use Rattle.ways.proofs.Members.{flatMap-from, out-among, flatMap-append, mem-split, keep-from, keep-in, keep-append}
+use Rattle.ways.proofs.Rising.{rising-below, rising-above, rising-keep}
+use Rattle.ways.proofs.Ordered.{before-trans, before-asym, before-true, true-before, false-before, Heads, by-heads}
+
+-- all of L, or none
+pub after-all : (b : List ℕ) (L : List (List ℕ)) → ((c : List ℕ) → c ∈ L → Before b c) → after b L ≡ L
+unfolding after
+after-all b [] h = refl
+after-all b (c ∷ L) h = rw (true-before (h c (List·Memᴰ·head refl))) (ap (_∷_ c) (after-all b L (λ d m. h d (List·Memᴰ·tail m))))
+
+pub after-none : (b : List ℕ) (L : List (List ℕ)) → ((c : List ℕ) → c ∈ L → ¬ Before b c) → after b L ≡ []
+unfolding after
+after-none b [] h = refl
+after-none b (c ∷ L) h = rw (false-before b c (h c (List·Memᴰ·head refl))) (after-none b L (λ d m. h d (List·Memᴰ·tail m)))
+
+-- those that pass the test `before b`
+pub after-keep : (b : List ℕ) (L : List (List ℕ)) → after b L ≡ keep (before b) L
+unfolding after keep
+after-keep b [] = refl
+after-keep b (c ∷ L) = rw (after-keep b L)
+
+pub after-append : (b : List ℕ) (L M : List (List ℕ)) → after b (L ++ M) ≡ after b L ++ after b M
+after-append b L M = rw (after-keep b (L ++ M), after-keep b L, after-keep b M) (keep-append (before b) L M)
+
+pub after-from : (b : List ℕ) (L : List (List ℕ)) {c : List ℕ} → c ∈ after b L → (c ∈ L) × Before b c
+after-from b L {c} m = let r = keep-from (before b) L (rw (after-keep b L) at m) in (r .0, before-true b c (r .1))
+
+pub after-in : {b c : List ℕ} {L : List (List ℕ)} → c ∈ L → Before b c → c ∈ after b L
+after-in {b} {c} {L} m r = rw (after-keep b L) (keep-in (before b) m (true-before r))
+
+pub after-rising : (b : List ℕ) (L : List (List ℕ)) → Rising Before L → Rising Before (after b L)
+after-rising b L r = rw (after-keep b L) (rising-keep Before (before b) L r)
+
+-- what stands after d stands after b, which does not stand later
+pub after-after : (b d : List ℕ) (L : List (List ℕ)) → (d ≡ b) ⊎ Before b d → after d (after b L) ≡ after d L
+unfolding after
+after-after b d [] h = refl
+after-after b d (c ∷ L) h = go (before b c) (before d c) refl refl (after-after b d L h)
+  where
+    no : before b c ≡ false → before d c ≡ true → (d ≡ b) ⊎ Before b d → ⊥
+    no e f (inl q) = true≢false (sym f ∙ ap (λ x. before x c) q ∙ e)
+    no e f (inr q) = true≢false (sym (true-before (before-trans q (before-true d c f))) ∙ e)
+
+    go : (t u : Bool) → before b c ≡ t → before d c ≡ u → after d (after b L) ≡ after d L → after d (pick t (c ∷ after b L) (after b L)) ≡ pick u (c ∷ after d L) (after d L)
+    go true true e f i = rw f (ap (_∷_ c) i)
+    go true false e f i = rw f i
+    go false true e f i = absurd (no e f h)
+    go false false e f i = i
+
+-- the test looks past a common head
+pub before-same : (x : ℕ) (a b : List ℕ) → before (x ∷ a) (x ∷ b) ≡ before a b
+unfolding before
+before-same x a b = rw (le-ltb x x (omega arith), eq-eqb x x refl)
+
+pub before-nil : (b : List ℕ) → before b [] ≡ false
+unfolding before
+before-nil b = refl
+
+pub after-map : (x : ℕ) (b : List ℕ) (L : List (List ℕ)) → after (x ∷ b) (map (_∷_ x) L) ≡ map (_∷_ x) (after b L)
+unfolding after
+after-map x b [] = refl
+after-map x b (c ∷ L) = rw (before-same x b c, after-map x b L) (go (before b c))
+  where
+    go : (t : Bool) → pick t ((x ∷ c) ∷ map (_∷_ x) (after b L)) (map (_∷_ x) (after b L)) ≡ map (_∷_ x) (pick t (c ∷ after b L) (after b L))
+    go true = refl
+    go false = refl
+
+module _ (f : ℕ → List (List ℕ)) (heads : (y : ℕ) → Heads y (f y)) where
+  pub after-below : (x : ℕ) (b : List ℕ) (lo : List ℕ) → ((y : ℕ) → y ∈ lo → y < x) → after (x ∷ b) (flatMap f lo) ≡ []
+  after-below x b lo h = after-none (x ∷ b) (flatMap f lo) (λ c m. step c (flatMap-from f lo m))
+    where
+      no : (y : ℕ) (w : List ℕ) → y < x → ¬ Before (x ∷ b) (y ∷ w)
+      no y w l (less i) = omega arith
+      no y w l (same e r) = omega arith
+
+      step : (c : List ℕ) → (y : ℕ) × (y ∈ lo) × (c ∈ f y) → ¬ Before (x ∷ b) c
+      step c q r = let u = heads (q .0) c (q .2) in no (q .0) (u .0) (h (q .0) (q .1)) (subst (λ d. Before (x ∷ b) d) (u .1) r)
+
+  pub after-above : (x : ℕ) (b : List ℕ) (hi : List ℕ) → ((y : ℕ) → y ∈ hi → x < y) → after (x ∷ b) (flatMap f hi) ≡ flatMap f hi
+  after-above x b hi h = after-all (x ∷ b) (flatMap f hi) (λ c m. step c (flatMap-from f hi m))
+    where
+      step : (c : List ℕ) → (y : ℕ) × (y ∈ hi) × (c ∈ f y) → Before (x ∷ b) c
+      step c q = let u = heads (q .0) c (q .2) in subst (λ d. Before (x ∷ b) d) (sym (u .1)) (less (h (q .0) (q .1)))
+
+  -- the bookmark through a rising row: nothing of what stands below x, of x what stands after, and all above
+  pub after-row : (x : ℕ) (b lo hi : List ℕ) → Rising _<_ (lo ++ x ∷ hi) → after (x ∷ b) (flatMap f (lo ++ x ∷ hi)) ≡ after (x ∷ b) (f x) ++ flatMap f hi
+  unfolding flatMap
+  after-row x b lo hi r = rw (flatMap-append f lo (x ∷ hi), after-append (x ∷ b) (flatMap f lo) (f x ++ flatMap f hi), after-below x b lo (λ y m. rising-below _<_ hi m r), after-append (x ∷ b) (f x) (flatMap f hi), after-above x b hi (rising-above _<_ x lo hi r))
+
+module _ (g : Graph) (rows : (p : ℕ) → Rising _<_ (g p)) (t k p : ℕ) (seen : List ℕ) (x : ℕ) (lo hi : List ℕ) (at : g p ≡ lo ++ x ∷ hi) where
+  -- at a person on the way
+  pub after-ways : x ≢ t → ¬ (x ∈ seen) → (b : List ℕ) → after (x ∷ b) (ways g t (suc k) seen p) ≡ map (_∷_ x) (after b (ways g t k (x ∷ seen) x)) ++ flatMap (by t seen (ways g t k)) hi
+  unfolding ways by
+  after-ways n o b = rw (at, after-row (by t seen (ways g t k)) (by-heads t seen (ways g t k)) x b lo hi (subst (Rising _<_) at (rows p)), ne-eqb x t n, out-among o, after-map x b (ways g t k (x ∷ seen) x))
+
+  -- at the end
+  pub after-ways-end : x ≡ t → (b : List ℕ) → after (x ∷ b) (ways g t (suc k) seen p) ≡ flatMap (by t seen (ways g t k)) hi
+  unfolding ways by after
+  after-ways-end e b = rw (at, after-row (by t seen (ways g t k)) (by-heads t seen (ways g t k)) x b lo hi (subst (Rising _<_) at (rows p)), eq-eqb x t e, before-same x b [], before-nil b)
+
+-- the chains of a listing after a bookmark of it
+pub after-listing : (g : Graph) (s t k : ℕ) (b : List ℕ) → after (s ∷ b) (listing g s t k) ≡ map (_∷_ s) (after b (ways g t k (s ∷ []) s))
+unfolding listing
+after-listing g s t k b = after-map s b (ways g t k (s ∷ []) s)
+
+-- a chain of a rising list parts it: what stands up to the chain and it, and what stands after it
+pub after-split : (b : List ℕ) (lo hi : List (List ℕ)) → Rising Before (lo ++ b ∷ hi) → after b (lo ++ b ∷ hi) ≡ hi
+unfolding after
+after-split b lo hi r = rw (after-append b lo (b ∷ hi), after-none b lo (λ c m. before-asym (rising-below Before hi m r)), false-before b b (λ i. before-asym i i), after-all b hi (rising-above Before b lo hi r))
+
+pub after-part : (b : List ℕ) (L : List (List ℕ)) → Rising Before L → b ∈ L → (lo : List (List ℕ)) × (L ≡ lo ++ b ∷ after b L)
+after-part b L r m =
+    let q = mem-split m in
+    (q .0, q .2 ∙ ap (λ M. q .0 ++ b ∷ M) (sym (after-split b (q .0) (q .1) (subst (Rising Before) (q .2) r)) ∙ ap (after b) (sym (q .2))))
