@@ -3,3 +3,4 @@ pub mod Faults
 pub mod Counted
 pub mod Tabled
 pub mod Passed
+pub mod Linked

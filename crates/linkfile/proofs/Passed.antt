@@ -6,7 +6,7 @@ use Prim.Native.Nat.{ℕ, _+_, _<_, _≤_}
 use native.Mathlib.Omega.{arith}
 use Rattle.linkfile.specs.Format.{marked, countsFit, laidOut, personCount, linkCount, feedCount, row}
 use Rattle.linkfile.specs.Verdict.{Fault, sound, fault, unless, firstOf, firstAmong, Verdict, passed, refused, verdict}
-use Rattle.linkfile.specs.Checked.{feedFault, rowFault, ownedFault, tablesFault, checked}
+use Rattle.linkfile.specs.Checked.{feedFault, rowFault, ownedFault, tablesFault, fileFault, checked}
 use Rattle.linkfile.specs.Inside.{Laid, Rowed}
 use Rattle.linkfile.specs.Answers.{verdictSaid, Checks}
 use Rattle.linkfile.specs.declared.Verdict as code
@@ -23,17 +23,45 @@ pub record Passed (file : List ℕ) (n m f : ℕ) : Type 0 where
   pub links : m ≡ linkCount file
   pub feeds : f ≡ feedCount file
 
-pub passed-rules : (file : List ℕ) {n m f : ℕ} → checked file ≡ passed n m f → Passed file n m f
-unfolding checked
-passed-rules file {n} {m} {f} e = go (marked file) (countsFit file) (laidOut file) (tablesFault file) refl refl refl refl e
+pub sound-rules : (file : List ℕ) → fileFault file ≡ sound → Passed file (personCount file) (linkCount file) (feedCount file)
+unfolding fileFault
+sound-rules file e = go (marked file) (countsFit file) (laidOut file) refl refl refl e
   where
-    go : (a b c : Bool) (t : Fault) → marked file ≡ a → countsFit file ≡ b → laidOut file ≡ c → tablesFault file ≡ t
-        → verdict (unless a 1 0 (unless b 2 0 (unless c 3 0 t))) (personCount file) (linkCount file) (feedCount file) ≡ passed n m f → Passed file n m f
-    go true true true sound a b c t e = record { marks = a; fits = b; lays = c; tables = t; persons = cc; links = cc; feeds = cc }
-    go true true true (fault number place) a b c t e = let z : _≡_ {A = ℕ} 0 1 = cc in absurd (omega arith)
-    go true true false t a b c i e = let z : _≡_ {A = ℕ} 0 1 = cc in absurd (omega arith)
-    go true false c t a b d i e = let z : _≡_ {A = ℕ} 0 1 = cc in absurd (omega arith)
-    go false b c t a d g i e = let z : _≡_ {A = ℕ} 0 1 = cc in absurd (omega arith)
+    go : (a b c : Bool) → marked file ≡ a → countsFit file ≡ b → laidOut file ≡ c → unless a 1 0 (unless b 2 0 (unless c 3 0 (tablesFault file))) ≡ sound
+        → Passed file (personCount file) (linkCount file) (feedCount file)
+    go true true true a b c e = record { marks = a; fits = b; lays = c; tables = e; persons = refl; links = refl; feeds = refl }
+    go true true false a b c e = let z : _≡_ {A = ℕ} 0 1 = cc in absurd (omega arith)
+    go true false c a b d e = let z : _≡_ {A = ℕ} 0 1 = cc in absurd (omega arith)
+    go false b c a d g e = let z : _≡_ {A = ℕ} 0 1 = cc in absurd (omega arith)
+
+-- the verdict and the first fault say the same
+pub record Verdicts (file : List ℕ) (n m f : ℕ) : Type 0 where
+  pub faultless : fileFault file ≡ sound
+  pub persons : n ≡ personCount file
+  pub links : m ≡ linkCount file
+  pub feeds : f ≡ feedCount file
+
+pub passed-verdict : (file : List ℕ) {n m f : ℕ} → checked file ≡ passed n m f → Verdicts file n m f
+unfolding checked
+passed-verdict file {n} {m} {f} e = go (fileFault file) refl e
+  where
+    go : (t : Fault) → fileFault file ≡ t → verdict t (personCount file) (linkCount file) (feedCount file) ≡ passed n m f → Verdicts file n m f
+    go sound i e = record { faultless = i; persons = cc; links = cc; feeds = cc }
+    go (fault number place) i e = let z : _≡_ {A = ℕ} 0 1 = cc in absurd (omega arith)
+
+pub refused-verdict : (file : List ℕ) {number place : ℕ} → checked file ≡ refused number place → fileFault file ≡ fault number place
+unfolding checked
+refused-verdict file {number} {place} e = go (fileFault file) refl e
+  where
+    go : (t : Fault) → fileFault file ≡ t → verdict t (personCount file) (linkCount file) (feedCount file) ≡ refused number place → fileFault file ≡ fault number place
+    go sound i e = let z : _≡_ {A = ℕ} 0 1 = cc in absurd (omega arith)
+    go (fault r p) i e = i ∙ cc
+
+pub passed-rules : (file : List ℕ) {n m f : ℕ} → checked file ≡ passed n m f → Passed file n m f
+passed-rules file e =
+    let v = passed-verdict file e in
+    let s = sound-rules file (v .faultless) in
+    record { marks = s .marks; fits = s .fits; lays = s .lays; tables = s .tables; persons = v .persons; links = v .links; feeds = v .feeds }
 
 -- the same by the answer of `check`
 pub passed-said : {file : List ℕ} {answer : code.Verdict} {n m f : ℕ} → Checks file answer → answer ≡ code.the-variants.Passed n m f → Passed file n m f

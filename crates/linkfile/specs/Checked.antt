@@ -64,10 +64,10 @@ tablesFault file =
     firstOf (firstAmong (feedFault file) 0 (feedCount file))
     (firstOf (firstAmong (rowFault file) 0 (personCount file + 1)) (firstAmong (ownedFault file) 0 (personCount file)))
 
--- the verdict on a file: 1, 2, 3, then feeds, rows, links
+-- the first fault of a file: 1, 2, 3, then feeds, rows, links
+unfoldable pub fileFault : List ℕ → Fault
+fileFault file = unless (marked file) 1 0 (unless (countsFit file) 2 0 (unless (laidOut file) 3 0 (tablesFault file)))
+
+-- the verdict on a file
 unfoldable pub checked : List ℕ → Verdict
-checked file =
-    verdict (unless (marked file) 1 0 (unless (countsFit file) 2 0 (unless (laidOut file) 3 0 (tablesFault file))))
-    (personCount file)
-    (linkCount file)
-    (feedCount file)
+checked file = verdict (fileFault file) (personCount file) (linkCount file) (feedCount file)

@@ -1,21 +1,21 @@
 -- `check` meets its contract: the rules of 1, 2 and 3, then the tables, decide in this order.
 use mathlib.Core.Path.{sym, _∙_}
 use borrow.Author.Tests.{not-true, not-false}
-use Rattle.linkfile.specs.Checked.{checked}
+use Rattle.linkfile.specs.Checked.{fileFault, checked}
 use Rattle.linkfile.proofs.Counted.{marked-long}
 use borrow.Author.Needs.{needs}
 use Rattle.linkfile.proofs.check.Statement.{statement}
 use Rattle.linkfile.proofs.check.Tie as tie
 
 returns : tie.Need-returns
-unfolding checked
+unfolding checked fileFault
 returns c = rw (← c .before .marked .ensures, not-true (c .before .marked .result) (c .if1 .taken))
 
 counts-fit-requires : tie.Need-counts-fit-requires
 counts-fit-requires c κs = marked-long (c .before .before .before .args .file .now) (sym (c .before .marked .ensures) ∙ not-false (c .before .marked .result) (c .if1 .left))
 
 returns-2 : tie.Need-returns-2
-unfolding checked
+unfolding checked fileFault
 returns-2 c =
     let at-marked = c .before .before .before .marked in
     let at-counts-fit = c .before .counts-fit in
@@ -28,7 +28,7 @@ laid-out-requires c κs =
     (sym (at-marked .ensures) ∙ not-false (at-marked .result) (c .before .before .if1 .left), sym (at-counts-fit .ensures) ∙ not-false (at-counts-fit .result) (c .if2 .left))
 
 returns-3 : tie.Need-returns-3
-unfolding checked
+unfolding checked fileFault
 returns-3 c =
     let at-marked = c .before .before .before .before .before .marked in
     let at-counts-fit = c .before .before .before .counts-fit in
@@ -43,7 +43,7 @@ counts-requires c κs =
     (sym (at-marked .ensures) ∙ not-false (at-marked .result) (c .before .before .before .before .if1 .left), (sym (at-counts-fit .ensures) ∙ not-false (at-counts-fit .result) (c .before .before .if2 .left), sym (at-laid-out .ensures) ∙ not-false (at-laid-out .result) (c .if3 .left)))
 
 returns-4 : tie.Need-returns-4
-unfolding checked
+unfolding checked fileFault
 returns-4 c =
     let at-marked = c .before .before .before .before .before .before .before .before .before .before .marked in
     let at-if1 = c .before .before .before .before .before .before .before .before .before .if1 in
@@ -74,7 +74,7 @@ feed-count-requires c κs =
     marked-long (at-start .args .file .now) (sym (at-marked .ensures) ∙ not-false (at-marked .result) (at-if1 .left))
 
 returns-5 : tie.Need-returns-5
-unfolding checked
+unfolding checked fileFault
 returns-5 c =
     let at-marked = c .before .before .before .before .before .before .before .before .before .before .before .before .marked in
     let at-if1 = c .before .before .before .before .before .before .before .before .before .before .before .if1 in

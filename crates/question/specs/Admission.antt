@@ -1,0 +1,37 @@
+-- Which links are admitted, and whom they lead to. Definitions only.
+use mathlib.Core.List.{List, [], _∷_, map}
+use mathlib.Core.Bool.{Bool, true, false, _&&_, _||_, cond}
+use Prim.Native.Nat.{ℕ, zero, suc, _+_, _-_, _/_, _%_}
+use lib.Dec.{eqb, ltb}
+use Rattle.linkfile.specs.Numbers.{within}
+use Rattle.linkfile.specs.Format.{personCount, meaning, row, target, day, feedIndex, kind}
+use Rattle.linkfile.specs.Kinds.{Class, class, unknown, classOf}
+use Rattle.ways.specs.Graph.{Graph, keep}
+use Rattle.question.specs.declared.Question.{Question}
+
+-- "its class is in the sum": the classes are 1, 2, 4 and 8, so each is a binary digit of their sum
+abbrev pub inSum : Class → ℕ → Bool
+inSum (class c) sum = eqb (sum / c % 2) 1
+inSum unknown sum = false
+
+-- "it is either undated or has a day from first to last, both included, from a feed whose meaning is the question's"
+unfoldable pub dayAdmitted : List ℕ → Question → ℕ → Bool
+dayAdmitted file q link =
+    eqb (day file link) 0 || (within (q .first) (q .last) (day file link) && eqb (meaning file (feedIndex file link)) (q .meaning))
+
+-- "A link is admitted if its class is in the sum and" its day is
+unfoldable pub admitted : List ℕ → Question → ℕ → Bool
+admitted file q link = inSum (classOf (kind file link)) (q .classes) && dayAdmitted file q link
+
+-- so many numbers from one on, rising
+unfoldable pub numbersFrom : ℕ → ℕ → List ℕ
+numbersFrom from zero = []
+numbersFrom from (suc count) = from ∷ numbersFrom (suc from) count
+
+-- "Person p owns links row[p] up to but without row[p+1]."
+abbrev pub owned : List ℕ → ℕ → List ℕ
+owned file person = numbersFrom (row file person) (row file (person + 1) - row file person)
+
+-- the persons that a person's admitted links lead to, in row order; nobody from a person who is not in the file
+unfoldable pub next : List ℕ → Question → Graph
+next file q person = cond (ltb person (personCount file)) (map (target file) (keep (admitted file q) (owned file person))) []

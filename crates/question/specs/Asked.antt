@@ -1,0 +1,42 @@
+-- A question, and when it is refused. Definitions only.
+-- "From, to, hops k (1 to 8), classes (a sum of classes, 1 to 15), date meaning (1 or 2), first day, last day."
+use mathlib.Core.List.{List}
+use mathlib.Core.Bool.{Bool, not, _&&_}
+use Prim.Native.Nat.{ℕ}
+use lib.Dec.{eqb, leb, ltb}
+use Rattle.linkfile.specs.Numbers.{within}
+use Rattle.linkfile.specs.Format.{personCount}
+use Rattle.linkfile.specs.Verdict.{Fault, sound, unless, firstOf}
+use Rattle.linkfile.specs.Checked.{lastDay, fileFault}
+use Rattle.question.specs.declared.Question.{Question}
+
+-- the most hops that a question may ask for
+abbrev pub mostHops : ℕ
+mostHops = 8
+
+-- 10: From (place 0, looked at first) or To (1) not below n
+abbrev pub endsFault : ℕ → Question → Fault → Fault
+endsFault n q after = unless (ltb (q .from) n) 10 0 (unless (ltb (q .to) n) 10 1 after)
+
+-- 15: first day 0, last above 3,652,059, or first above last
+unfoldable pub daysFit : Question → Bool
+daysFit q = leb 1 (q .first) && leb (q .last) lastDay && leb (q .first) (q .last)
+
+-- 11 From equals To; 12 hops; 13 classes; 14 question's meaning; 15 days
+unfoldable pub restFault : Question → Fault
+restFault q =
+    unless (not (eqb (q .from) (q .to))) 11 0
+    (unless (within 1 mostHops (q .hops)) 12 0
+    (unless (within 1 15 (q .classes)) 13 0 (unless (within 1 2 (q .meaning)) 14 0 (unless (daysFit q) 15 0 sound))))
+
+-- the question's own faults, to a file of n persons
+unfoldable pub questionFault : ℕ → Question → Fault
+questionFault n q = endsFault n q (restFault q)
+
+-- "Fewest hops reports its extra person as 10 with place 2, after From and To and before 11."
+unfoldable pub personFault : ℕ → Question → ℕ → Fault
+personFault n q person = endsFault n q (unless (ltb person n) 10 2 (restFault q))
+
+-- the file's refusals come before the question's
+abbrev pub askedFault : List ℕ → Question → Fault
+askedFault file q = firstOf (fileFault file) (questionFault (personCount file) q)
