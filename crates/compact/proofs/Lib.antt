@@ -1,0 +1,2 @@
+-- Laws of the compact graph.
+pub mod Rows
