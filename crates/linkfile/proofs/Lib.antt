@@ -4,3 +4,5 @@ pub mod Counted
 pub mod Tabled
 pub mod Passed
 pub mod Linked
+pub mod Numbered
+pub mod OneResult

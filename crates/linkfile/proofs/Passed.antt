@@ -11,6 +11,7 @@ use Rattle.linkfile.specs.Inside.{Laid, Rowed}
 use Rattle.linkfile.specs.Answers.{verdictSaid, Checks}
 use Rattle.linkfile.specs.declared.Verdict as code
 use Rattle.linkfile.specs.declared.Counts.{Counts}
+use Rattle.linkfile.proofs.Counted.{Fitting, counts-fit}
 use Rattle.linkfile.proofs.Tabled.{rows-keep, rows-below}
 
 -- the rules of a file that passed
@@ -97,3 +98,9 @@ row-lies {file} {counts} {person = person} laid p h =
     let rowed = passed-rowed laid p in
     let inside : person < counts .persons = omega (arith, laid .persons, p .persons) in
     record { inside = inside; keeps = rows-keep rowed person inside; below = rows-below rowed (person + 1) (omega arith) }
+
+-- the counts of a file that passed are within their limits
+pub passed-fits : {file : List ℕ} {n m f : ℕ} → Passed file n m f → Fitting n m f
+passed-fits {file} p =
+    let fit = counts-fit file (p .fits) in
+    record { some = omega (arith, p .persons); persons = omega (arith, p .persons); links = omega (arith, p .links); feeds = omega (arith, p .feeds) }
