@@ -1,0 +1,128 @@
+//! Memory lent to the library. Around the lent part lie zones that belong to the lender, so that a write outside
+//! the part is seen; a guarded file ends where the process may read no further, so that a read outside is seen too.
+
+use std::fmt::Debug;
+
+/// Elements before and behind the lent part.
+const ZONE: usize = 64;
+
+/// A lent part between two zones.
+pub struct Lent<T> {
+    all: Vec<T>,
+    before_call: Vec<T>,
+    start: usize,
+    length: usize,
+}
+
+impl<T: Copy + PartialEq + Debug> Lent<T> {
+    /// Lends a copy of `contents`, `shift` elements further than the zone asks: so files come at odd addresses too.
+    pub fn shifted(contents: &[T], zone: T, shift: usize) -> Lent<T> {
+        let start = ZONE + shift;
+        let mut all = vec![zone; start + contents.len() + ZONE];
+        all[start..start + contents.len()].copy_from_slice(contents);
+        Lent {
+            before_call: all.clone(),
+            all,
+            start,
+            length: contents.len(),
+        }
+    }
+
+    pub fn new(contents: &[T], zone: T) -> Lent<T> {
+        Lent::shifted(contents, zone, 0)
+    }
+
+    pub fn pointer(&mut self) -> *mut T {
+        self.all[self.start..].as_mut_ptr()
+    }
+
+    pub fn length(&self) -> usize {
+        self.length
+    }
+
+    /// The lent part as it is now.
+    pub fn contents(&self) -> &[T] {
+        &self.all[self.start..self.start + self.length]
+    }
+
+    /// Fails if anything changed, in the part or around it.
+    pub fn assert_as_it_came(&self) {
+        assert!(self.all == self.before_call, "lent memory was changed");
+    }
+
+    /// Fails if anything changed around the part.
+    pub fn assert_zones_as_they_came(&self) {
+        let end = self.start + self.length;
+        let before = self.all[..self.start] == self.before_call[..self.start];
+        let behind = self.all[end..] == self.before_call[end..];
+        assert!(before && behind, "memory beside the lent part was changed");
+    }
+}
+
+const PAGE: usize = 4096;
+const READ_WRITE: i32 = 1 | 2;
+const READ: i32 = 1;
+const NOTHING: i32 = 0;
+const PRIVATE_ANONYMOUS: i32 = 0x02 | 0x20;
+
+extern "C" {
+    fn mmap(at: *mut u8, length: usize, rights: i32, flags: i32, file: i32, offset: i64)
+        -> *mut u8;
+    fn mprotect(at: *mut u8, length: usize, rights: i32) -> i32;
+    fn munmap(at: *mut u8, length: usize) -> i32;
+}
+
+/// A file that may only be read, and whose end is the end of what may be read at all: a step beyond it ends the
+/// test run at once.
+pub struct Guarded {
+    pages: *mut u8,
+    mapped: usize,
+    start: usize,
+    length: usize,
+}
+
+impl Guarded {
+    pub fn new(file: &[u8]) -> Guarded {
+        let readable = file.len().div_ceil(PAGE) * PAGE;
+        let mapped = readable + PAGE;
+        let start = readable - file.len();
+        unsafe {
+            let pages = mmap(
+                std::ptr::null_mut(),
+                mapped,
+                READ_WRITE,
+                PRIVATE_ANONYMOUS,
+                -1,
+                0,
+            );
+            assert!(pages as isize != -1, "no memory to guard");
+            std::ptr::copy_nonoverlapping(file.as_ptr(), pages.add(start), file.len());
+            if readable > 0 {
+                assert_eq!(mprotect(pages, readable, READ), 0);
+            }
+            assert_eq!(mprotect(pages.add(readable), PAGE, NOTHING), 0);
+            Guarded {
+                pages,
+                mapped,
+                start,
+                length: file.len(),
+            }
+        }
+    }
+
+    pub fn pointer(&self) -> *const u8 {
+        unsafe { self.pages.add(self.start) }
+    }
+
+    pub fn length(&self) -> usize {
+        self.length
+    }
+}
+
+impl Drop for Guarded {
+    fn drop(&mut self) {
+        unsafe {
+            munmap(self.pages, self.mapped);
+        }
+    }
+}
