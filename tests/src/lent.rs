@@ -40,22 +40,9 @@ impl<T: Copy + PartialEq + Debug> Lent<T> {
         self.length
     }
 
-    /// The lent part as it is now.
-    pub fn contents(&self) -> &[T] {
-        &self.all[self.start..self.start + self.length]
-    }
-
     /// Fails if anything changed, in the part or around it.
     pub fn assert_as_it_came(&self) {
         assert!(self.all == self.before_call, "lent memory was changed");
-    }
-
-    /// Fails if anything changed around the part.
-    pub fn assert_zones_as_they_came(&self) {
-        let end = self.start + self.length;
-        let before = self.all[..self.start] == self.before_call[..self.start];
-        let behind = self.all[end..] == self.before_call[end..];
-        assert!(before && behind, "memory beside the lent part was changed");
     }
 }
 
@@ -72,11 +59,47 @@ extern "C" {
     fn munmap(at: *mut u8, length: usize) -> i32;
 }
 
+/// Pages that may only be read and hold a file at `start`; behind them one that may not even be read.
+struct Pages {
+    first: *mut u8,
+    mapped: usize,
+}
+
+impl Pages {
+    fn holding(file: &[u8], start: usize, readable: usize) -> Pages {
+        let mapped = readable + PAGE;
+        let written = (start + file.len()).div_ceil(PAGE) * PAGE;
+        unsafe {
+            let nowhere = std::ptr::null_mut();
+            let first = mmap(nowhere, mapped, READ, PRIVATE_ANONYMOUS, -1, 0);
+            assert!(first as isize != -1, "no pages to lend");
+            if written > 0 {
+                rights(first, written, READ_WRITE);
+                std::ptr::copy_nonoverlapping(file.as_ptr(), first.add(start), file.len());
+                rights(first, written, READ);
+            }
+            rights(first.add(readable), PAGE, NOTHING);
+            Pages { first, mapped }
+        }
+    }
+}
+
+impl Drop for Pages {
+    fn drop(&mut self) {
+        unsafe {
+            munmap(self.first, self.mapped);
+        }
+    }
+}
+
+unsafe fn rights(at: *mut u8, length: usize, rights: i32) {
+    assert_eq!(mprotect(at, length, rights), 0, "no rights to change");
+}
+
 /// A file that may only be read, and whose end is the end of what may be read at all: a step beyond it ends the
 /// test run at once.
 pub struct Guarded {
-    pages: *mut u8,
-    mapped: usize,
+    pages: Pages,
     start: usize,
     length: usize,
 }
@@ -84,45 +107,30 @@ pub struct Guarded {
 impl Guarded {
     pub fn new(file: &[u8]) -> Guarded {
         let readable = file.len().div_ceil(PAGE) * PAGE;
-        let mapped = readable + PAGE;
         let start = readable - file.len();
-        unsafe {
-            let pages = mmap(
-                std::ptr::null_mut(),
-                mapped,
-                READ_WRITE,
-                PRIVATE_ANONYMOUS,
-                -1,
-                0,
-            );
-            assert!(pages as isize != -1, "no memory to guard");
-            std::ptr::copy_nonoverlapping(file.as_ptr(), pages.add(start), file.len());
-            if readable > 0 {
-                assert_eq!(mprotect(pages, readable, READ), 0);
-            }
-            assert_eq!(mprotect(pages.add(readable), PAGE, NOTHING), 0);
-            Guarded {
-                pages,
-                mapped,
-                start,
-                length: file.len(),
-            }
+        Guarded {
+            pages: Pages::holding(file, start, readable),
+            start,
+            length: file.len(),
+        }
+    }
+
+    /// The file with zeros behind it, 2^32 bytes of them: a length cut to 32 bits would be the file's own.
+    pub fn with_vast_tail(file: &[u8]) -> Guarded {
+        let length = file.len() + (1 << 32);
+        let readable = length.div_ceil(PAGE) * PAGE;
+        Guarded {
+            pages: Pages::holding(file, 0, readable),
+            start: 0,
+            length,
         }
     }
 
     pub fn pointer(&self) -> *const u8 {
-        unsafe { self.pages.add(self.start) }
+        unsafe { self.pages.first.add(self.start) }
     }
 
     pub fn length(&self) -> usize {
         self.length
-    }
-}
-
-impl Drop for Guarded {
-    fn drop(&mut self) {
-        unsafe {
-            munmap(self.pages, self.mapped);
-        }
     }
 }

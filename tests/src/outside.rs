@@ -26,10 +26,9 @@ pub fn check_shifted(file: &[u8], shift: usize) -> Verdict {
     passed_or_refused(answer)
 }
 
-/// The check of a file that ends where nothing more may be read.
-pub fn check_guarded(file: &[u8]) -> Verdict {
-    let guarded = Guarded::new(file);
-    passed_or_refused(unsafe { kin_check(guarded.pointer(), guarded.length()) })
+/// The check of a file in pages that may only be read.
+pub fn check_guarded(file: &Guarded) -> Verdict {
+    passed_or_refused(unsafe { kin_check(file.pointer(), file.length()) })
 }
 
 /// The check of no bytes at the null pointer.
@@ -47,9 +46,8 @@ pub fn row(file: &[u8], person: u32) -> u64 {
     answer
 }
 
-pub fn row_guarded(file: &[u8], person: u32) -> u64 {
-    let guarded = Guarded::new(file);
-    unsafe { kin_row(guarded.pointer(), guarded.length(), person) }
+pub fn row_guarded(file: &Guarded, person: u32) -> u64 {
+    unsafe { kin_row(file.pointer(), file.length(), person) }
 }
 
 pub fn row_null(person: u32) -> u64 {

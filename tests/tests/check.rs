@@ -9,6 +9,7 @@
 use independent::checker::{self, Counts, Refusal, Verdict, LAST_DAY};
 use independent::faults::{catalogue, shown_behind, with_faults, Fault};
 use independent::files::{self, feed, link, LinkFile};
+use independent::lent::Guarded;
 use independent::outside;
 use independent::random::Random;
 
@@ -553,11 +554,14 @@ fn the_empty_slice_is_1() {
     let right = checker::refused(1, 0);
     refuses(&[], 1, 0, "no bytes");
     assert_eq!(outside::check_null(), right, "no bytes at the null pointer");
-    assert_eq!(
-        outside::check_guarded(&[]),
-        right,
-        "no bytes, none readable"
-    );
+    let unreadable = Guarded::new(&[]);
+    assert_eq!(outside::check_guarded(&unreadable), right);
+}
+
+/// Asks with a file that ends where nothing more may be read.
+fn agree_at_the_edge(file: &[u8]) {
+    let guarded = Guarded::new(file);
+    assert_eq!(outside::check_guarded(&guarded), checker::verdict(file));
 }
 
 #[test]
@@ -565,17 +569,22 @@ fn nothing_is_read_beyond_the_slice() {
     let shape = files::six_persons();
     let file = shape.bytes();
     for length in 0..=file.len() {
-        let part = &file[..length];
-        assert_eq!(outside::check_guarded(part), checker::verdict(part));
+        agree_at_the_edge(&file[..length]);
     }
     for fault in catalogue(&shape) {
-        let changed = with_faults(&file, &[&fault]);
-        assert_eq!(outside::check_guarded(&changed), Err(fault.refusal));
+        agree_at_the_edge(&with_faults(&file, &[&fault]));
     }
     let largest = files::largest().bytes();
     for length in [0, 31, 32, 33, 36, 100, 4096, 53_347, 53_348] {
-        let part = &largest[..length];
-        assert_eq!(outside::check_guarded(part), checker::verdict(part));
+        agree_at_the_edge(&largest[..length]);
+    }
+}
+
+#[test]
+fn a_slice_of_more_than_32_bits_of_bytes_is_3() {
+    for shape in [files::six_persons(), files::one_person(), files::largest()] {
+        let vast = Guarded::with_vast_tail(&shape.bytes());
+        assert_eq!(outside::check_guarded(&vast), checker::refused(3, 0));
     }
 }
 

@@ -8,6 +8,7 @@
 use independent::checker;
 use independent::faults::{catalogue, with_faults};
 use independent::files::{self, LinkFile};
+use independent::lent::Guarded;
 use independent::outside;
 use independent::random::Random;
 
@@ -151,23 +152,35 @@ fn the_empty_slice_has_no_view() {
     for person in [0, 1, u32::MAX] {
         assert_eq!(outside::row(&[], person), 0);
         assert_eq!(outside::row_null(person), 0);
-        assert_eq!(outside::row_guarded(&[], person), 0);
+        assert_eq!(outside::row_guarded(&Guarded::new(&[]), person), 0);
     }
+}
+
+/// Asks with a file that ends where nothing more may be read.
+fn view_at_the_edge(file: &[u8], person: u32) {
+    let guarded = Guarded::new(file);
+    let right = checker::row_view(file, person).len() as u64;
+    assert_eq!(outside::row_guarded(&guarded, person), right);
 }
 
 #[test]
 fn nothing_is_read_beyond_the_slice() {
     let file = files::six_persons().bytes();
     for length in 0..=file.len() {
-        let part = &file[..length];
         for person in [0, 5, 6, u32::MAX] {
-            let right = checker::row_view(part, person).len() as u64;
-            assert_eq!(outside::row_guarded(part, person), right);
+            view_at_the_edge(&file[..length], person);
         }
     }
     let largest = files::largest().bytes();
     for person in [0, 1, 1022, 1023, 1024, u32::MAX] {
-        let right = checker::row_view(&largest, person).len() as u64;
-        assert_eq!(outside::row_guarded(&largest, person), right);
+        view_at_the_edge(&largest, person);
+    }
+}
+
+#[test]
+fn a_slice_of_more_than_32_bits_of_bytes_has_no_view() {
+    let vast = Guarded::with_vast_tail(&files::six_persons().bytes());
+    for person in 0..7 {
+        assert_eq!(outside::row_guarded(&vast, person), 0);
     }
 }
