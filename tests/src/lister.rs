@@ -1,0 +1,150 @@
+//! An independent lister, by brute force: every admitted sequence of different persons is walked, nothing is pruned,
+//! and the chains found are sorted. Slow, and plain enough to be believed.
+
+use crate::checker::{self, refused, Counts, Refusal, LAST_DAY};
+use std::collections::VecDeque;
+
+#[derive(Clone, Copy, Debug, PartialEq, Eq)]
+pub struct Question {
+    pub from: u32,
+    pub to: u32,
+    pub hops: u32,
+    pub classes: u32,
+    pub meaning: u32,
+    pub first_day: u32,
+    pub last_day: u32,
+}
+
+/// A chain as its persons, first From, last To.
+pub type Chain = Vec<u32>;
+
+/// For each person the persons reached by an admitted link, in the order of the row.
+pub type Hops = Vec<Vec<u32>>;
+
+/// Every chain in dictionary order, or the refusal of the file (1 to 9) or of the question (10 to 15).
+pub fn listing(file: &[u8], question: &Question) -> Result<Vec<Chain>, Refusal> {
+    let counts = checker::verdict(file)?;
+    ends_below_n(question, counts.n)?;
+    question_refusals(question)?;
+    let hops = admitted_hops(file, counts, question);
+    let mut chains = vec![];
+    let mut so_far = vec![question.from];
+    walk(&hops, question, &mut so_far, &mut chains);
+    chains.sort();
+    Ok(chains)
+}
+
+/// The fewest hops from a person to To: at most k, else k+1.
+pub fn fewest(file: &[u8], question: &Question, person: u32) -> Result<u32, Refusal> {
+    let counts = checker::verdict(file)?;
+    ends_below_n(question, counts.n)?;
+    if person >= counts.n {
+        return refused(10, 2);
+    }
+    question_refusals(question)?;
+    let hops = admitted_hops(file, counts, question);
+    let none = question.hops + 1;
+    Ok(distance(&hops, person, question.to).map_or(none, |fewest| fewest.min(none)))
+}
+
+/// The record of a chain: its hops, its persons, zeros; ten cells.
+pub fn record(chain: &[u32]) -> [u32; 10] {
+    let mut cells = [0; 10];
+    cells[0] = chain.len() as u32 - 1;
+    cells[1..=chain.len()].copy_from_slice(chain);
+    cells
+}
+
+fn ends_below_n(question: &Question, n: u32) -> Result<(), Refusal> {
+    if question.from >= n {
+        return refused(10, 0);
+    }
+    if question.to >= n {
+        return refused(10, 1);
+    }
+    Ok(())
+}
+
+fn question_refusals(question: &Question) -> Result<(), Refusal> {
+    if question.from == question.to {
+        return refused(11, 0);
+    }
+    if !(1..=8).contains(&question.hops) {
+        return refused(12, 0);
+    }
+    if !(1..=15).contains(&question.classes) {
+        return refused(13, 0);
+    }
+    if !(1..=2).contains(&question.meaning) {
+        return refused(14, 0);
+    }
+    let (first, last) = (question.first_day, question.last_day);
+    if first == 0 || last > LAST_DAY || first > last {
+        return refused(15, 0);
+    }
+    Ok(())
+}
+
+fn admitted_hops(file: &[u8], counts: Counts, question: &Question) -> Hops {
+    let mut hops = vec![];
+    for person in 0..counts.n {
+        let (first, end) = checker::row(file, counts, person);
+        let targets = (first..end)
+            .map(|place| checker::link(file, counts, place))
+            .filter(|link| admitted(file, link, question))
+            .map(|link| link.target);
+        hops.push(targets.collect());
+    }
+    hops
+}
+
+fn admitted(file: &[u8], link: &checker::Link, question: &Question) -> bool {
+    let class = checker::class(link.kind).expect("the file passed");
+    // Classes are 1, 2, 4 and 8: one is in the sum if its bit is.
+    if question.classes & class == 0 {
+        return false;
+    }
+    if link.day == 0 {
+        return true;
+    }
+    let in_window = question.first_day <= link.day && link.day <= question.last_day;
+    let meaning = u32::from(checker::feed(file, link.feed).meaning);
+    in_window && meaning == question.meaning
+}
+
+fn walk(hops: &Hops, question: &Question, so_far: &mut Chain, chains: &mut Vec<Chain>) {
+    let last = so_far[so_far.len() - 1];
+    if last == question.to {
+        chains.push(so_far.clone());
+        return;
+    }
+    if so_far.len() as u32 == question.hops + 1 {
+        return;
+    }
+    for &person in &hops[last as usize] {
+        if !so_far.contains(&person) {
+            so_far.push(person);
+            walk(hops, question, so_far, chains);
+            so_far.pop();
+        }
+    }
+}
+
+/// Breadth first from a person until To is met.
+fn distance(hops: &Hops, person: u32, to: u32) -> Option<u32> {
+    let mut met = vec![false; hops.len()];
+    let mut waiting = VecDeque::from([(person, 0)]);
+    met[person as usize] = true;
+    while let Some((at, far)) = waiting.pop_front() {
+        if at == to {
+            return Some(far);
+        }
+        for &next in &hops[at as usize] {
+            if !met[next as usize] {
+                met[next as usize] = true;
+                waiting.push_back((next, far + 1));
+            }
+        }
+    }
+    None
+}
