@@ -1,0 +1,1 @@
+use mathlib.Core.List.{List, [], _∷_, _++_}
