@@ -1,6 +1,7 @@
 -- The six-person file, byte for byte, laid out as the customer's document writes it. Definitions only.
 use mathlib.Core.List.{List, [], _∷_, _++_, flatMap}
 use Prim.Native.Nat.{ℕ, _/_, _%_}
+use Rattle.question.specs.declared.Question.{Question}
 
 -- "Numbers are little-endian and unsigned."
 abbrev pub bytes16 : ℕ → List ℕ
@@ -47,3 +48,12 @@ links =
 -- the file
 unfoldable pub six : List ℕ
 six = header ++ feeds ++ rows ++ links
+
+-- from 0 to 5, and the five numbers that the cases change
+abbrev pub ask : ℕ → ℕ → ℕ → ℕ → ℕ → Question
+ask hops classes meaning first last =
+    record { from = 0; to = 5; hops = hops; classes = classes; meaning = meaning; first = first; last = last }
+
+-- "Q is 0 to 5, hops 4, classes 15, meaning 1, days 1 to 3,652,059."
+abbrev pub Q : Question
+Q = ask 4 15 1 1 3652059
