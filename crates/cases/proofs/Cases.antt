@@ -16,23 +16,20 @@ use Rattle.ways.specs.ByHops.{shorterFirst}
 use Rattle.ways.specs.Halves.{personsBelow, extends, halfChains}
 use Rattle.question.specs.Asked.{daysFit, restFault, questionFault}
 use Rattle.question.specs.Admission.{dayAdmitted, admitted, numbersFrom, next}
-use Rattle.cases.specs.SixPersons.{six, header, feeds, rows, links}
+use Rattle.cases.specs.SixPersons.{six}
 use Rattle.cases.specs.Cases.{AllHold, table}
 
-pub six-length : length six ≡ 188
-unfolding six header feeds rows links flatMap
-six-length = refl
+pub six-passes : (length six ≡ 188) × (checked six ≡ passed 6 10 2)
+unfolding six flatMap number16 number32 marked countsFit laidOut classOf firstAmong archiveRises feedRuled feedFault rowStartsOrKeeps rowEnds rowRuled rowFault targetRises linkRuled linkFault ownedFault tablesFault fileFault checked
+six-passes = (refl, refl)
 
-pub six-passes : checked six ≡ passed 6 10 2
-unfolding six header feeds rows links flatMap number16 number32 marked countsFit laidOut classOf firstAmong archiveRises feedRuled feedFault rowStartsOrKeeps rowEnds rowRuled rowFault targetRises linkRuled linkFault ownedFault tablesFault fileFault checked
-six-passes = refl
-
+-- one row after the other
 infixr 20 _and_
 abbrev _and_ : {A B : Type 0} → A → B → A × B
 a and b = (a, b)
 
 pub every-case-holds : AllHold six table
-unfolding six header feeds rows links flatMap number16 number32 marked countsFit laidOut classOf firstAmong archiveRises feedRuled feedFault rowStartsOrKeeps rowEnds rowRuled rowFault targetRises linkRuled linkFault ownedFault tablesFault fileFault daysFit restFault questionFault dayAdmitted admitted numbersFrom next among keep by ways listing before after recordOf chainOf cellsOf written sameCells isRecordIn shorterFirst personsBelow extends halfChains table
+unfolding six flatMap number16 number32 marked countsFit laidOut classOf firstAmong archiveRises feedRuled feedFault rowStartsOrKeeps rowEnds rowRuled rowFault targetRises linkRuled linkFault ownedFault tablesFault fileFault daysFit restFault questionFault dayAdmitted admitted numbersFrom next among keep by ways listing before after recordOf chainOf cellsOf written sameCells isRecordIn shorterFirst personsBelow extends halfChains table
 every-case-holds =
     (refl, refl)
     and (refl, refl)

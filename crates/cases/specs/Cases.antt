@@ -39,14 +39,14 @@ abbrev pub halvesFault : ℕ → ℕ → List (List ℕ) → Fault
 halvesFault size cells halfChains = unless (halvesFit size cells halfChains) 18 0 sound
 
 -- what a file and a question give: the listing, a portion of it, the half chains
-abbrev pub chainsOf : List ℕ → Question → List (List ℕ)
-chainsOf file q = listing (next file q) (q .from) (q .to) (q .hops)
+abbrev pub listingFor : List ℕ → Question → List (List ℕ)
+listingFor file q = listing (next file q) (q .from) (q .to) (q .hops)
 
-abbrev pub portionOf : List ℕ → Question → ℕ → Start → List (List ℕ)
-portionOf file q room start = portion room (startsAfter start) (chainsOf file q)
+abbrev pub portionFor : List ℕ → Question → ℕ → Start → List (List ℕ)
+portionFor file q room start = portion room (startsAfter start) (listingFor file q)
 
-abbrev pub halvesOf : List ℕ → Question → List (List ℕ)
-halvesOf file q = halves (next file q) (personCount file) (q .from) (q .to) (q .hops)
+abbrev pub halvesFor : List ℕ → Question → List (List ℕ)
+halvesFor file q = halves (next file q) (personCount file) (q .from) (q .to) (q .hops)
 
 -- written to lent cells, whichever they are, the chains fill these from cell 0, and the other cells are unchanged
 abbrev pub Fill : List (List ℕ) → List ℕ → Type 0
@@ -63,20 +63,20 @@ pub data Case : Type 0 where
 
 -- a case holds on a file: file and question pass, and what must come out does come out
 abbrev pub Holds : List ℕ → Case → Type 0
-Holds file (listingIs q chains) = (askedFault file q ≡ sound) × (chainsOf file q ≡ chains)
+Holds file (listingIs q chains) = (askedFault file q ≡ sound) × (listingFor file q ≡ chains)
 Holds file (portionIs q room start count ended chains cells) =
     (askedFault file q ≡ sound)
-    × (startFault recordSize (chainsOf file q) start ≡ sound)
-    × (length (portionOf file q room start) ≡ count)
-    × (endedAfter room (startsAfter start) (chainsOf file q) ≡ ended)
-    × (portionOf file q room start ≡ chains)
-    × Fill (portionOf file q room start) cells
+    × (startFault recordSize (listingFor file q) start ≡ sound)
+    × (length (portionFor file q room start) ≡ count)
+    × (endedAfter room (startsAfter start) (listingFor file q) ≡ ended)
+    × (portionFor file q room start ≡ chains)
+    × Fill (portionFor file q room start) cells
 Holds file (halvesAre q halfChains cells enough tooFew) =
     (askedFault file q ≡ sound)
-    × (halvesOf file q ≡ halfChains)
-    × Fill (halvesOf file q) cells
-    × (halvesFault recordSize enough (halvesOf file q) ≡ sound)
-    × (halvesFault recordSize tooFew (halvesOf file q) ≡ fault 18 0)
+    × (halvesFor file q ≡ halfChains)
+    × Fill (halvesFor file q) cells
+    × (halvesFault recordSize enough (halvesFor file q) ≡ sound)
+    × (halvesFault recordSize tooFew (halvesFor file q) ≡ fault 18 0)
 
 -- the one statement: every case of the table holds on the file
 abbrev pub AllHold : List ℕ → List Case → Type 0
@@ -101,6 +101,15 @@ secondRecord = 4 ∷ 0 ∷ 2 ∷ 1 ∷ 3 ∷ 5 ∷ 0 ∷ 0 ∷ 0 ∷ 0 ∷ []
 
 abbrev pub thirdRecord : List ℕ
 thirdRecord = 3 ∷ 0 ∷ 2 ∷ 3 ∷ 5 ∷ 0 ∷ 0 ∷ 0 ∷ 0 ∷ 0 ∷ []
+
+-- the records of the half chains of P12
+abbrev pub halfRecords : List ℕ
+halfRecords =
+    (0 ∷ 5 ∷ 0 ∷ 0 ∷ 0 ∷ 0 ∷ 0 ∷ 0 ∷ 0 ∷ 0 ∷ [])
+    ++ (1 ∷ 3 ∷ 5 ∷ 0 ∷ 0 ∷ 0 ∷ 0 ∷ 0 ∷ 0 ∷ 0 ∷ [])
+    ++ (1 ∷ 4 ∷ 5 ∷ 0 ∷ 0 ∷ 0 ∷ 0 ∷ 0 ∷ 0 ∷ 0 ∷ [])
+    ++ (2 ∷ 1 ∷ 3 ∷ 5 ∷ 0 ∷ 0 ∷ 0 ∷ 0 ∷ 0 ∷ 0 ∷ [])
+    ++ (2 ∷ 2 ∷ 3 ∷ 5 ∷ 0 ∷ 0 ∷ 0 ∷ 0 ∷ 0 ∷ 0 ∷ [])
 
 -- the table; a question is Q, or says hops, classes, meaning, first day and last day
 unfoldable pub table : List Case
@@ -128,13 +137,5 @@ table =
     -- P11 room 3: three, ended.
     ∷ portionIs Q 3 fresh 3 true (first ∷ second ∷ third ∷ []) (firstRecord ++ secondRecord ++ thirdRecord)
     -- P12 half chains: (5), (3 5), (4 5), (1 3 5), (2 3 5). 50 working cells do; 49 give 18.
-    ∷ halvesAre Q
-    ((5 ∷ []) ∷ (3 ∷ 5 ∷ []) ∷ (4 ∷ 5 ∷ []) ∷ (1 ∷ 3 ∷ 5 ∷ []) ∷ (2 ∷ 3 ∷ 5 ∷ []) ∷ [])
-    ((0 ∷ 5 ∷ 0 ∷ 0 ∷ 0 ∷ 0 ∷ 0 ∷ 0 ∷ 0 ∷ 0 ∷ [])
-    ++ (1 ∷ 3 ∷ 5 ∷ 0 ∷ 0 ∷ 0 ∷ 0 ∷ 0 ∷ 0 ∷ 0 ∷ [])
-    ++ (1 ∷ 4 ∷ 5 ∷ 0 ∷ 0 ∷ 0 ∷ 0 ∷ 0 ∷ 0 ∷ 0 ∷ [])
-    ++ (2 ∷ 1 ∷ 3 ∷ 5 ∷ 0 ∷ 0 ∷ 0 ∷ 0 ∷ 0 ∷ 0 ∷ [])
-    ++ (2 ∷ 2 ∷ 3 ∷ 5 ∷ 0 ∷ 0 ∷ 0 ∷ 0 ∷ 0 ∷ 0 ∷ []))
-    50
-    49
+    ∷ halvesAre Q ((5 ∷ []) ∷ (3 ∷ 5 ∷ []) ∷ (4 ∷ 5 ∷ []) ∷ (1 ∷ 3 ∷ 5 ∷ []) ∷ (2 ∷ 3 ∷ 5 ∷ []) ∷ []) halfRecords 50 49
     ∷ []

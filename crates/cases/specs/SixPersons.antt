@@ -14,38 +14,43 @@ bytes32 x = bytes16 (x % 65536) ++ bytes16 (x / 65536)
 abbrev pub feedBytes : ℕ → ℕ → List ℕ
 feedBytes archive meaning = bytes16 archive ++ (meaning ∷ 0 ∷ [])
 
--- "target person (32), day (32), feed index (16), kind (8), a zero byte", asked for in the order of the list below: to, kind, day, feed
+-- "target person (32), day (32), feed index (16), kind (8), a zero byte"; the numbers are given as the list of links below gives them
 abbrev pub linkBytes : ℕ → ℕ → ℕ → ℕ → List ℕ
 linkBytes to kind day feed = bytes32 to ++ bytes32 day ++ bytes16 feed ++ (kind ∷ 0 ∷ [])
 
 -- the mark, then "n=6, m=10, f=2, offsets 32, 40, 68, length 188"
-unfoldable pub header : List ℕ
+abbrev pub header : List ℕ
 header = (0x4B ∷ 0x4C ∷ 0x46 ∷ 0x31 ∷ []) ++ flatMap bytes32 (6 ∷ 10 ∷ 2 ∷ 32 ∷ 40 ∷ 68 ∷ 188 ∷ [])
 
 -- "Feeds: (archive 11, meaning 1), (archive 27, meaning 2)."
-unfoldable pub feeds : List ℕ
+abbrev pub feeds : List ℕ
 feeds = feedBytes 11 1 ++ feedBytes 27 2
 
 -- "Rows 0 2 4 6 8 9 10."
-unfoldable pub rows : List ℕ
+abbrev pub rows : List ℕ
 rows = flatMap bytes32 (0 ∷ 2 ∷ 4 ∷ 6 ∷ 8 ∷ 9 ∷ 10 ∷ [])
 
--- "Links as from→to, kind, day, feed: 0→1 1 700000 0; 0→2 3 0 0; 1→3 1 700100 0; 1→4 5 700200 1; 2→1 4 700050 0; 2→3 1 700300 0;
--- 3→2 2 700300 0; 3→5 1 700400 0; 4→5 1 700500 0; 5→0 2 0 0." Whom a link is from is said by the rows.
-unfoldable pub links : List ℕ
+-- "Links as from→to, kind, day, feed": whom a link is from is said by the rows
+abbrev pub links : List ℕ
 links =
+    -- 0→1 1 700000 0; 0→2 3 0 0;
     linkBytes 1 1 700000 0
     ++ linkBytes 2 3 0 0
+    -- 1→3 1 700100 0; 1→4 5 700200 1;
     ++ linkBytes 3 1 700100 0
     ++ linkBytes 4 5 700200 1
+    -- 2→1 4 700050 0; 2→3 1 700300 0;
     ++ linkBytes 1 4 700050 0
     ++ linkBytes 3 1 700300 0
+    -- 3→2 2 700300 0; 3→5 1 700400 0;
     ++ linkBytes 2 2 700300 0
     ++ linkBytes 5 1 700400 0
+    -- 4→5 1 700500 0;
     ++ linkBytes 5 1 700500 0
+    -- 5→0 2 0 0.
     ++ linkBytes 0 2 0 0
 
--- the file
+-- the file: 188 bytes
 unfoldable pub six : List ℕ
 six = header ++ feeds ++ rows ++ links
 
