@@ -1,0 +1,46 @@
+-- The six-person file passes, and every case of the table holds on it: computed from its 188 bytes.
+use mathlib.Core.Path.{_≡_, refl}
+use mathlib.Core.List.{flatMap}
+use lib.ListN.{length}
+use Rattle.linkfile.specs.Numbers.{number16, number32}
+use Rattle.linkfile.specs.Format.{marked, countsFit, laidOut}
+use Rattle.linkfile.specs.Kinds.{classOf}
+use Rattle.linkfile.specs.Verdict.{firstAmong, passed}
+use Rattle.linkfile.specs.Checked.{archiveRises, feedRuled, feedFault, rowStartsOrKeeps, rowEnds, rowRuled, rowFault, targetRises, linkRuled, linkFault, ownedFault, tablesFault, fileFault, checked}
+use Rattle.ways.specs.Graph.{among, keep}
+use Rattle.ways.specs.Order.{before}
+use Rattle.ways.specs.Listing.{by, ways, listing}
+use Rattle.ways.specs.Portions.{after}
+use Rattle.ways.specs.Records.{recordOf, chainOf, cellsOf, written, sameCells, isRecordIn}
+use Rattle.ways.specs.ByHops.{shorterFirst}
+use Rattle.ways.specs.Halves.{personsBelow, extends, halfChains}
+use Rattle.question.specs.Asked.{daysFit, restFault, questionFault}
+use Rattle.question.specs.Admission.{dayAdmitted, admitted, numbersFrom, next}
+use Rattle.cases.specs.SixPersons.{six}
+use Rattle.cases.specs.Cases.{AllHold, table}
+
+pub six-passes : (length six ≡ 188) × (checked six ≡ passed 6 10 2)
+unfolding six flatMap number16 number32 marked countsFit laidOut classOf firstAmong archiveRises feedRuled feedFault rowStartsOrKeeps rowEnds rowRuled rowFault targetRises linkRuled linkFault ownedFault tablesFault fileFault checked
+six-passes = (refl, refl)
+
+-- one row after the other
+infixr 20 _and_
+abbrev _and_ : {A B : Type 0} → A → B → A × B
+a and b = (a, b)
+
+pub every-case-holds : AllHold six table
+unfolding six flatMap number16 number32 marked countsFit laidOut classOf firstAmong archiveRises feedRuled feedFault rowStartsOrKeeps rowEnds rowRuled rowFault targetRises linkRuled linkFault ownedFault tablesFault fileFault daysFit restFault questionFault dayAdmitted admitted numbersFrom next among keep by ways listing before after recordOf chainOf cellsOf written sameCells isRecordIn shorterFirst personsBelow extends halfChains table
+every-case-holds =
+    (refl, refl)
+    and (refl, refl)
+    and (refl, refl)
+    and (refl, refl)
+    and (refl, refl)
+    and (refl, refl)
+    and (refl, refl)
+    and (refl, refl)
+    and (refl, refl, refl, refl, refl, λ lent. refl)
+    and (refl, refl, refl, refl, refl, λ lent. refl)
+    and (refl, refl, refl, refl, refl, λ lent. refl)
+    and (refl, refl, (λ lent. refl), refl, refl)
+    and tt

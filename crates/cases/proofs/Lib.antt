@@ -1,0 +1,2 @@
+-- The table of the cases, proved.
+pub mod Cases
