@@ -7,8 +7,9 @@ use Prim.Native.Nat.{ℕ, _+_, _*_, _≤_, _<_}
 use lib.ListN.{length}
 use lib.Dec.{eqb}
 use native.Mathlib.Omega.{arith}
-use Rattle.linkfile.specs.Numbers.{within, number16}
-use Rattle.linkfile.specs.Format.{linksStart, feedAt, feedIndex}
+use Rattle.linkfile.specs.Numbers.{within, number16, number32}
+use Rattle.linkfile.specs.Format.{linksStart, feedAt, feedIndex, target}
+use Rattle.linkfile.specs.Inside.{Laid}
 use Rattle.linkfile.specs.Kinds.{Class, class, unknown, classOf}
 use Rattle.linkfile.specs.declared.Counts.{Counts}
 use Rattle.linkfile.proofs.Counted.{place-is}
@@ -40,3 +41,7 @@ fed-lies {file} {counts} {link} {at} {feed} f place is =
     let here = is ∙ ap (λ (a : ℕ). number16 file (a + 8)) (place-is link (f .laid) place) in
     let low : feed < counts .feeds = omega (arith, f .fed, f .laid .feeds) in
     (omega (arith, f .laid), omega (arith, f .laid))
+
+-- whom a link leads to, by its place
+pub target-is : {file : List ℕ} {counts : Counts} (link : ℕ) {at v : ℕ} → Laid file counts → at ≡ linksStart (counts .persons) (counts .feeds) + 12 * link → v ≡ number32 file at → v ≡ target file link
+target-is {file} link laid place is = is ∙ ap (number32 file) (place-is link laid place)

@@ -5,6 +5,7 @@
 // searching read `next` and no byte.
 pub mod admission;
 pub mod faults;
+pub mod filling;
 
 use linkfile::Fault;
 use linkfile::Verdict;
