@@ -27,7 +27,7 @@ pub record Link (file : List ℕ) (owner link : ℕ) : Type 0 where
   pub dated : day file link ≤ lastDay
 
 -- no fault behind a rule is no fault of the rule, and none after it
-unless-none : (rule : Bool) (number place : ℕ) {after : Fault} → unless rule number place after ≡ sound → (rule ≡ true) × (after ≡ sound)
+pub unless-none : (rule : Bool) (number place : ℕ) {after : Fault} → unless rule number place after ≡ sound → (rule ≡ true) × (after ≡ sound)
 unless-none true number place e = (refl, e)
 unless-none false number place e = let z : _≡_ {A = ℕ} 0 1 = cc in absurd (omega arith)
 

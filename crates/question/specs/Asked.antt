@@ -1,13 +1,15 @@
 -- A question, and when it is refused. Definitions only.
 -- "From, to, hops k (1 to 8), classes (a sum of classes, 1 to 15), date meaning (1 or 2), first day, last day."
+use mathlib.Core.Path.{_≡_}
 use mathlib.Core.List.{List}
 use mathlib.Core.Bool.{Bool, not, _&&_}
 use Prim.Native.Nat.{ℕ}
 use lib.Dec.{eqb, leb, ltb}
 use Rattle.linkfile.specs.Numbers.{within}
 use Rattle.linkfile.specs.Format.{personCount}
-use Rattle.linkfile.specs.Verdict.{Fault, sound, unless, firstOf}
+use Rattle.linkfile.specs.Verdict.{Fault, sound, unless, firstOf, faultSaid}
 use Rattle.linkfile.specs.Checked.{lastDay, fileFault}
+use Rattle.linkfile.specs.declared.Fault as code
 use Rattle.question.specs.declared.Question.{Question}
 
 -- the most hops that a question may ask for
@@ -40,3 +42,7 @@ personFault n q person = endsFault n q (unless (ltb person n) 10 2 (restFault q)
 -- the file's refusals come before the question's
 abbrev pub askedFault : List ℕ → Question → Fault
 askedFault file q = firstOf (fileFault file) (questionFault (personCount file) q)
+
+-- asked: the answer is the first fault of the file and the question
+abbrev pub Asks : List ℕ → Question → code.Fault → Type 0
+Asks file q answer = faultSaid answer ≡ askedFault file q

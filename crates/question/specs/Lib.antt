@@ -1,2 +1,4 @@
 pub mod Asked
 pub mod Admission
+pub mod Inside
+pub mod Filled

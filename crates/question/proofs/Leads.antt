@@ -1,0 +1,118 @@
+-- Whom a person's admitted links lead to: persons of the file, strictly rising, and nobody from whoever is not in the file.
+use mathlib.Core.Path.{_≡_, refl, sym, ap, subst, _∙_}
+use mathlib.Core.Logic.{_⊎_, inl, inr}
+use mathlib.Core.Bool.{Bool, true, false, cond}
+use mathlib.Core.List.{List, [], _∷_, map, List·Memᴰ·not-nil, List·Memᴰ·cases-cons, Memᴰ·of-map}
+use Prim.Native.Nat.{ℕ, zero, suc, _+_, _-_, _≤_, _<_}
+use lib.Dec.{ltb}
+use native.Mathlib.Numerals.{add-one}
+use native.Mathlib.Omega.{arith}
+use borrow.Author.Tests.{ltb-true, lt-ltb, le-ltb}
+use Rattle.ways.specs.Graph.{_∈_, pick, keep}
+use Rattle.ways.specs.Order.{Rising}
+use Rattle.ways.proofs.Members.{keep-from}
+use Rattle.linkfile.specs.Format.{personCount, row, target}
+use Rattle.linkfile.proofs.Passed.{Passed}
+use Rattle.linkfile.proofs.Linked.{passed-link}
+use Rattle.question.specs.Admission.{admitted, numbersFrom, owned, next}
+use Rattle.question.specs.declared.Question.{Question}
+
+-- the persons that the admitted ones of so many links lead to
+abbrev pub led : List ℕ → Question → ℕ → ℕ → List ℕ
+led file q from count = map (target file) (keep (admitted file q) (numbersFrom from count))
+
+-- each of so many numbers from one on lies among them
+pub numbers-lie : (from count : ℕ) {x : ℕ} → x ∈ numbersFrom from count → (from ≤ x) × (x < from + count)
+unfolding numbersFrom
+numbers-lie from zero m = absurd (List·Memᴰ·not-nil m)
+numbers-lie from (suc count) {x} m = go (List·Memᴰ·cases-cons m) (λ i. numbers-lie (suc from) count i)
+  where
+    go : (x ≡ from) ⊎ (x ∈ numbersFrom (suc from) count) → (x ∈ numbersFrom (suc from) count → (suc from ≤ x) × (x < suc from + count)) → (from ≤ x) × (x < from + suc count)
+    go (inl e) on = (omega arith, omega arith)
+    go (inr i) on = let r = on i in (omega arith, omega arith)
+
+-- what is kept of a rising run rises
+module _ (f : ℕ → ℕ) (test : ℕ → Bool) where
+  kept-above : (low from count : ℕ) → (0 < count → low < f from) → ((l : ℕ) → from ≤ l → suc l < from + count → f l < f (suc l)) → (y : ℕ) → y ∈ map f (keep test (numbersFrom from count)) → low < y
+  unfolding numbersFrom keep
+  kept-above low from zero h s y m = absurd (List·Memᴰ·not-nil m)
+  kept-above low from (suc count) h s y m =
+      let first = h (omega arith) in
+      go first (test from) m (λ i. kept-above low (suc from) count (λ some. let step = s from (omega arith) (omega arith) in omega arith) (λ l a b. s l (omega arith) (omega arith)) y i)
+    where
+      rest : List ℕ
+      rest = keep test (numbersFrom (suc from) count)
+
+      cases : low < f from → (y ≡ f from) ⊎ (y ∈ map f rest) → (y ∈ map f rest → low < y) → low < y
+      cases first (inl e) on = omega arith
+      cases first (inr i) on = on i
+
+      go : low < f from → (t : Bool) → y ∈ map f (pick t (from ∷ rest) rest) → (y ∈ map f rest → low < y) → low < y
+      go first true m on = cases first (List·Memᴰ·cases-cons m) on
+      go first false m on = on m
+
+  kept-rising : (from count : ℕ) → ((l : ℕ) → from ≤ l → suc l < from + count → f l < f (suc l)) → Rising _<_ (map f (keep test (numbersFrom from count)))
+  unfolding numbersFrom keep
+  kept-rising from zero s = tt
+  kept-rising from (suc count) s =
+      let on : (l : ℕ) → suc from ≤ l → suc l < suc from + count → f l < f (suc l) = λ l a b. s l (omega arith) (omega arith) in
+      go (test from) (kept-above (f from) (suc from) count (λ some. s from (omega arith) (omega arith)) on) (kept-rising (suc from) count on)
+    where
+      rest : List ℕ
+      rest = keep test (numbersFrom (suc from) count)
+
+      go : (t : Bool) → ((y : ℕ) → y ∈ map f rest → f from < y) → Rising _<_ (map f rest) → Rising _<_ (map f (pick t (from ∷ rest) rest))
+      go true above rises = (above, rises)
+      go false above rises = rises
+
+-- how v comes to be next
+pub record Led (file : List ℕ) (q : Question) (person v : ℕ) : Type 0 where
+  pub link : ℕ
+  pub inside : person < personCount file
+  pub low : row file person ≤ link
+  pub high : link < row file (person + 1)
+  pub admits : admitted file q link ≡ true
+  pub leads : v ≡ target file link
+
+pub next-led : (file : List ℕ) (q : Question) (person : ℕ) {v : ℕ} → v ∈ next file q person → Led file q person v
+unfolding next
+next-led file q person {v} m = go (ltb person (personCount file)) refl m
+  where
+    go : (t : Bool) → ltb person (personCount file) ≡ t → v ∈ cond t (led file q (row file person) (row file (person + 1) - row file person)) [] → Led file q person v
+    go true e m =
+        let r = Memᴰ·of-map (target file) (keep (admitted file q) (owned file person)) m in
+        let k = keep-from (admitted file q) (owned file person) (r .1) in
+        let l = numbers-lie (row file person) (row file (person + 1) - row file person) (k .0) in
+        record { link = r .0; inside = ltb-true person (personCount file) e; low = l .0; high = omega arith; admits = k .1; leads = sym (r .2) }
+    go false e m = absurd (List·Memᴰ·not-nil m)
+
+-- nobody from whoever is not in the file
+pub next-none : (file : List ℕ) (q : Question) (person : ℕ) → personCount file ≤ person → next file q person ≡ []
+unfolding next
+next-none file q person h = rw (le-ltb person (personCount file) h)
+
+pub next-some : (file : List ℕ) (q : Question) (person : ℕ) → person < personCount file → next file q person ≡ led file q (row file person) (row file (person + 1) - row file person)
+unfolding next
+next-some file q person h = rw (lt-ltb person (personCount file) h)
+
+module _ {file : List ℕ} {n m f : ℕ} (p : Passed file n m f) (q : Question) where
+  -- persons of the file
+  pub next-below : (person : ℕ) {v : ℕ} → v ∈ next file q person → v < n
+  next-below person {v} i =
+      let l = next-led file q person i in
+      let k = passed-link p person (l .link) (omega (arith, p .persons, l .inside)) (l .low) (l .high) in
+      omega (arith, p .persons, k .person, l .leads)
+
+  -- strictly rising
+  pub next-rising : (person : ℕ) → Rising _<_ (next file q person)
+  unfolding next
+  next-rising person = go (ltb person (personCount file)) refl
+    where
+      steps : person < n → (l : ℕ) → row file person ≤ l → suc l < row file person + (row file (person + 1) - row file person) → target file l < target file (suc l)
+      steps h l low high =
+          let back : suc l - 1 ≡ l = omega arith in
+          rw back at (passed-link p person (suc l) h (omega arith) (omega arith) .rises (λ e. omega arith))
+
+      go : (t : Bool) → ltb person (personCount file) ≡ t → Rising _<_ (cond t (led file q (row file person) (row file (person + 1) - row file person)) [])
+      go true e = kept-rising (target file) (admitted file q) (row file person) (row file (person + 1) - row file person) (steps (omega (arith, p .persons, ltb-true person (personCount file) e)))
+      go false e = tt

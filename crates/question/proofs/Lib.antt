@@ -1,0 +1,4 @@
+pub mod Refused
+pub mod Classed
+pub mod Leads
+pub mod Growing

@@ -1,0 +1,77 @@
+-- What the refusals of a question say: the ends decide before all else, and of a question that passed its numbers are known.
+use mathlib.Core.Path.{_≡_, refl, sym, ap, _∙_}
+use mathlib.Core.Bool.{Bool, true, false, not}
+use mathlib.Core.List.{List}
+use Prim.Native.Nat.{ℕ, _<_, _≤_}
+use lib.Dec.{eqb, ltb}
+use native.Mathlib.Omega.{arith}
+use borrow.Author.Tests.{ltb-true, eqb-false, not-true}
+use Rattle.linkfile.specs.Numbers.{within}
+use Rattle.linkfile.specs.Format.{personCount, linkCount, feedCount}
+use Rattle.linkfile.specs.Verdict.{Fault, sound, fault, unless, firstOf, faultSaid}
+use Rattle.linkfile.specs.Checked.{fileFault}
+use Rattle.linkfile.specs.declared.Fault as code
+use Rattle.linkfile.proofs.Counted.{within-facts}
+use Rattle.linkfile.proofs.Passed.{Passed, sound-rules}
+use Rattle.linkfile.proofs.Linked.{unless-none}
+use Rattle.question.specs.Asked.{mostHops, endsFault, restFault, questionFault, personFault, Asks}
+use Rattle.question.specs.declared.Question.{Question}
+
+-- the ends are looked at before all else
+pub ends-first : (n : ℕ) (q : Question) (after : Fault) → endsFault n q after ≡ firstOf (endsFault n q sound) after
+ends-first n q after = go (ltb (q .from) n) (ltb (q .to) n)
+  where
+    go : (from to : Bool) → unless from 10 0 (unless to 10 1 after) ≡ firstOf (unless from 10 0 (unless to 10 1 sound)) after
+    go true true = refl
+    go true false = refl
+    go false to = refl
+
+-- what later rooms know of a question that passed
+pub record Proper (n : ℕ) (q : Question) : Type 0 where
+  pub from : q .from < n
+  pub to : q .to < n
+  pub differ : q .from ≡ q .to → ⊥
+  pub some : 1 ≤ q .hops
+  pub most : q .hops ≤ mostHops
+
+proper : (n : ℕ) (q : Question) → ltb (q .from) n ≡ true → ltb (q .to) n ≡ true → restFault q ≡ sound → Proper n q
+unfolding restFault
+proper n q from to rest =
+    let eleven = unless-none (not (eqb (q .from) (q .to))) 11 0 rest in
+    let twelve = unless-none (within 1 mostHops (q .hops)) 12 0 (eleven .1) in
+    let hops = within-facts 1 mostHops (q .hops) (twelve .0) in
+    record {
+      from = ltb-true (q .from) n from;
+      to = ltb-true (q .to) n to;
+      differ = eqb-false (q .from) (q .to) (not-true' (eqb (q .from) (q .to)) (eleven .0));
+      some = hops .0;
+      most = hops .1;
+    }
+  where
+    not-true' : (b : Bool) → not b ≡ true → b ≡ false
+    not-true' = not-true
+
+pub question-proper : (n : ℕ) (q : Question) → questionFault n q ≡ sound → Proper n q
+unfolding questionFault
+question-proper n q e =
+    let from = unless-none (ltb (q .from) n) 10 0 e in
+    let to = unless-none (ltb (q .to) n) 10 1 (from .1) in
+    proper n q (from .0) (to .0) (to .1)
+
+pub person-proper : (n : ℕ) (q : Question) (person : ℕ) → personFault n q person ≡ sound → Proper n q × (person < n)
+unfolding personFault
+person-proper n q person e =
+    let from = unless-none (ltb (q .from) n) 10 0 e in
+    let to = unless-none (ltb (q .to) n) 10 1 (from .1) in
+    let extra = unless-none (ltb person n) 10 2 (to .1) in
+    (proper n q (from .0) (to .0) (extra .1), ltb-true person n (extra .0))
+
+-- nothing found: the file passed, and so did the question
+pub asked-passed : {file : List ℕ} {q : Question} {answer : code.Fault} → Asks file q answer → answer ≡ code.the-variants.Sound
+    → Passed file (personCount file) (linkCount file) (feedCount file) × Proper (personCount file) q
+asked-passed {file} {q} asks is = go (fileFault file) refl (sym asks ∙ ap faultSaid is)
+  where
+    go : (found : Fault) → fileFault file ≡ found → firstOf found (questionFault (personCount file) q) ≡ sound
+        → Passed file (personCount file) (linkCount file) (feedCount file) × Proper (personCount file) q
+    go sound f e = (sound-rules file f, question-proper (personCount file) q e)
+    go (fault number place) f e = let z : _≡_ {A = ℕ} 0 1 = cc in absurd (omega arith)

@@ -1,0 +1,64 @@
+-- `rest_fault` meets its contract: 11, 12, 13, 14, 15, in this order.
+use borrow.Author.Tests.{eq-eqb, ne-eqb, not-true, not-false}
+use Rattle.question.specs.Asked.{restFault}
+use borrow.Author.Needs.{needs}
+use Rattle.question.proofs.faults.rest_fault.Statement.{statement}
+use Rattle.question.proofs.faults.rest_fault.Tie as tie
+
+returns : tie.Need-returns
+unfolding restFault
+returns c = rw (eq-eqb _ _ (c .if1 .taken))
+
+returns-2 : tie.Need-returns-2
+unfolding restFault
+returns-2 c = rw (ne-eqb _ _ (c .before .before .if1 .left), ← c .before .within .ensures, not-true (c .before .within .result) (c .if2 .taken))
+
+returns-3 : tie.Need-returns-3
+unfolding restFault
+returns-3 c =
+    let at-within = c .before .before .before .within in
+    let at-within2 = c .before .within2 in
+    rw (ne-eqb _ _ (c .before .before .before .before .if1 .left), ← at-within .ensures, not-false (at-within .result) (c .before .before .if2 .left), ← at-within2 .ensures, not-true (at-within2 .result) (c .if3 .taken))
+
+returns-4 : tie.Need-returns-4
+unfolding restFault
+returns-4 c =
+    let at-within = c .before .before .before .before .before .within in
+    let at-within2 = c .before .before .before .within2 in
+    let at-within3 = c .before .within3 in
+    rw (ne-eqb _ _ (c .before .before .before .before .before .before .if1 .left), ← at-within .ensures, not-false (at-within .result) (c .before .before .before .before .if2 .left), ← at-within2 .ensures, not-false (at-within2 .result) (c .before .before .if3 .left), ← at-within3 .ensures, not-true (at-within3 .result) (c .if4 .taken))
+
+returns-5 : tie.Need-returns-5
+unfolding restFault
+returns-5 c =
+    let at-if1 = c .before .before .before .before .before .before .before .before .if1 in
+    let at-within = c .before .before .before .before .before .before .before .within in
+    let at-within2 = c .before .before .before .before .before .within2 in
+    let at-within3 = c .before .before .before .within3 in
+    let at-days-fit = c .before .days-fit in
+    rw (ne-eqb _ _ (at-if1 .left), ← at-within .ensures, not-false (at-within .result) (c .before .before .before .before .before .before .if2 .left), ← at-within2 .ensures, not-false (at-within2 .result) (c .before .before .before .before .if3 .left), ← at-within3 .ensures, not-false (at-within3 .result) (c .before .before .if4 .left), ← at-days-fit .ensures, not-true (at-days-fit .result) (c .if5 .taken))
+
+returns-6 : tie.Need-returns-6
+unfolding restFault
+returns-6 c =
+    let at-if1 = c .before .before .before .before .before .before .before .before .if1 in
+    let at-within = c .before .before .before .before .before .before .before .within in
+    let at-within2 = c .before .before .before .before .before .within2 in
+    let at-within3 = c .before .before .before .within3 in
+    let at-days-fit = c .before .days-fit in
+    rw (ne-eqb _ _ (at-if1 .left), ← at-within .ensures, not-false (at-within .result) (c .before .before .before .before .before .before .if2 .left), ← at-within2 .ensures, not-false (at-within2 .result) (c .before .before .before .before .if3 .left), ← at-within3 .ensures, not-false (at-within3 .result) (c .before .before .if4 .left), ← at-days-fit .ensures, not-false (at-days-fit .result) (c .if5 .left))
+
+pub rest-fault-spec : {M : Type 1} → statement M
+rest-fault-spec =
+    tie.close
+    (tie.spec
+    returns
+    (λ c κs. search needs)
+    returns-2
+    (λ c κs. search needs)
+    returns-3
+    (λ c κs. search needs)
+    returns-4
+    (λ c κs. search needs)
+    returns-5
+    returns-6)

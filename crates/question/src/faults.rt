@@ -1,0 +1,79 @@
+// The refusals of a question, 10 to 15. No test is written twice: the one question of a listing and the one of fewest hops, which
+// names a person more, both begin with the ends and close with the rest.
+use crate::Question;
+use linkfile::Fault;
+use linkfile::numbers;
+ghost use mathlib.Core.Path.{_≡_};
+ghost use Rattle.linkfile.specs.Verdict.{faultSaid, sound};
+ghost use Rattle.question.specs.Asked.{endsFault, daysFit, restFault, questionFault, personFault};
+
+// From and To are persons of the file, From looked at first.
+fn ends_fault(persons: u32, question: Question) -> Fault
+    ensures { λ r. ⌜ faultSaid r ≡ endsFault persons question sound ⌝ }
+{
+    if persons <= question.from {
+        return Fault::At(10, 0);
+    }
+    if persons <= question.to {
+        return Fault::At(10, 1);
+    }
+    Fault::Sound
+}
+
+// The days of the question make a window.
+fn days_fit(question: Question) -> bool
+    ensures { λ r. ⌜ r ≡ daysFit question ⌝ }
+{
+    if question.first < 1 {
+        return false;
+    }
+    if 3652059 < question.last {
+        return false;
+    }
+    question.first <= question.last
+}
+
+// 11 to 15: what a question may ask, whatever the file.
+fn rest_fault(question: Question) -> Fault
+    ensures { λ r. ⌜ faultSaid r ≡ restFault question ⌝ }
+{
+    if question.from == question.to {
+        return Fault::At(11, 0);
+    }
+    if !numbers::within(1, 8, question.hops) {
+        return Fault::At(12, 0);
+    }
+    if !numbers::within(1, 15, question.classes) {
+        return Fault::At(13, 0);
+    }
+    if !numbers::within(1, 2, question.meaning) {
+        return Fault::At(14, 0);
+    }
+    if !days_fit(question) {
+        return Fault::At(15, 0);
+    }
+    Fault::Sound
+}
+
+// The first fault of a question to a file of so many persons.
+pub fn question_fault(persons: u32, question: Question) -> Fault
+    ensures { λ r. ⌜ faultSaid r ≡ questionFault persons question ⌝ }
+{
+    if let Fault::At(number, place) = ends_fault(persons, question) {
+        return Fault::At(number, place);
+    }
+    rest_fault(question)
+}
+
+// The same where the question names one person more, who is looked at after From and To.
+pub fn person_fault(persons: u32, question: Question, person: u32) -> Fault
+    ensures { λ r. ⌜ faultSaid r ≡ personFault persons question person ⌝ }
+{
+    if let Fault::At(number, place) = ends_fault(persons, question) {
+        return Fault::At(number, place);
+    }
+    if persons <= person {
+        return Fault::At(10, 2);
+    }
+    rest_fault(question)
+}

@@ -1,0 +1,57 @@
+// From bytes to the compact graph: one pass over the links.
+use crate::Question;
+use crate::admission;
+use linkfile::Counts;
+use linkfile::links;
+use linkfile::rows;
+ghost use Rattle.question.specs.Filled.{Fillable, Filled, Appendable, Appended};
+
+// Writes the persons that a person's admitted links lead to, from the cell `start` on. Answers the cell behind the last of them.
+fn append(
+    file: &[u8],
+    counts: Counts,
+    question: Question,
+    person: usize,
+    start: usize,
+    targets: &mut [u16],
+) -> usize
+    requires { ⌜ Appendable (now file) counts person start (now targets) ⌝ }
+    ensures { λ r. ⌜ Appended (now (file .entry)) question person start r (now (targets .entry)) (now (targets .exit)) ⌝ }
+{
+    if counts.persons <= person {
+        return start;
+    }
+    let stop = rows::entry(file, counts, person + 1);
+    let mut link = rows::entry(file, counts, person);
+    let mut end = start;
+    while link < stop {
+        if admission::admits(file, counts, question, link) {
+            targets[end] = links::target(file, links::place(counts, link)) as u16;
+            end += 1;
+        }
+        link += 1;
+    }
+    end
+}
+
+// Fills row starts and targets, so that, read back, they are `next`. Whoever is not in the file has an empty row behind the others,
+// so that a reader needs no person count.
+pub fn fill(
+    file: &[u8],
+    counts: Counts,
+    question: Question,
+    starts: &mut [u16],
+    targets: &mut [u16],
+)
+    requires { ⌜ Fillable (now file) counts (now starts) (now targets) ⌝ }
+    ensures { λ r. ⌜ Filled (now (file .entry)) question (now (starts .exit)) (now (targets .exit)) ⌝ }
+{
+    let mut person = 0;
+    let mut end = 0;
+    starts[0] = 0;
+    while person < 1024 {
+        end = append(file, counts, question, person, end, targets);
+        person += 1;
+        starts[person] = end as u16;
+    }
+}
