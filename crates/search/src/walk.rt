@@ -55,7 +55,7 @@ pub fn enter(
     }
     // To comes before the mark: where From is To as well, this closes a ring.
     if v == w.to {
-        if side == 1 {
+        if side != 0 {
             return found;
         }
         return crate::records::hand_over(out, chain, w, v, w.len, found);
