@@ -7,10 +7,9 @@ ghost use lib.ListN.{length, set};
 ghost use lib.Seq.{slice};
 ghost use Rattle.compact.specs.Compact.{persons};
 ghost use Rattle.search.specs.Barriers.{unwind, Undoable, Raising, Raised, Barren, Settling, Settled};
-
-use compact::PERSONS;
 use crate::walk::Found;
 use crate::walk::TRAIL;
+use compact::PERSONS;
 
 // Puts one barrier back: an entry is the person times 16 and the old barrier.
 fn restore(barriers: &mut [u8; PERSONS], entry: u16)

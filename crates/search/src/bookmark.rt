@@ -1,6 +1,5 @@
 // After a bookmark: while the chain is the bookmark's own beginning, what stands before it is skipped.
 ghost use Rattle.search.specs.Bookmarks.{Tight, Beside};
-
 use crate::walk::Walk;
 
 // Where v stands to the bookmark's next person: 2 before him, 1 it is he, 0 behind him, or the bookmark is left already.

@@ -5,7 +5,6 @@ ghost use lib.ListN.{length};
 ghost use lib.Seq.{paste};
 ghost use Rattle.search.specs.Face.{size};
 ghost use Rattle.search.specs.Pages.{Room, Handed};
-
 use crate::RECORD;
 use crate::walk::Found;
 use crate::walk::Walk;

@@ -1,11 +1,10 @@
 // The cycle: entering a person, and going through that person's links.
 ghost use Prim.Native.Nat.{_<_};
 ghost use Rattle.search.specs.Walks.{Ready, Entered, GoneThrough};
-
+use crate::RECORD;
 use compact::LINKS;
 use compact::PERSONS;
 use compact::STARTS;
-use crate::RECORD;
 
 // Each entry that stands on the trail has raised its person's barrier, and none passes the hops: never too few.
 pub const TRAIL: usize = 8192;
