@@ -12,14 +12,19 @@ use Rattle.ways.specs.Order.{Rising}
 abbrev pub persons : ℕ
 persons = 1024
 
+-- as many links as a file can have
+abbrev pub links : ℕ
+links = 4096
+
 -- the persons that p has admitted links to
 abbrev pub graphOf : List ℕ → List ℕ → Graph
 graphOf rows targets p = slice (getD rows p 0) (getD rows (p + 1) 0) targets
 
--- well formed: a start for each person and the last row's end; they rise to at most the number of targets;
--- each target is a person; and each row strictly rises
+-- well formed: a start for each person and the last row's end, and a target for each link; the starts rise to at most the
+-- number of targets; each target is a person; and each row strictly rises
 pub record Compact (rows targets : List ℕ) : Type 0 where
   pub starts : length rows ≡ suc persons
+  pub room : length targets ≡ links
   pub rise : (p : ℕ) → p < persons → getD rows p 0 ≤ getD rows (p + 1) 0
   pub ends : (p : ℕ) → p < persons → getD rows (p + 1) 0 ≤ length targets
   pub people : (i : ℕ) → i < length targets → getD targets i 0 < persons

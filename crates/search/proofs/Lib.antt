@@ -1,0 +1,7 @@
+-- The laws that the proofs of the functions cite: one for each thing that is not plain arithmetic.
+mod Cases
+mod Writing
+mod Resuming
+mod Pruning
+mod Steps
+mod Answer

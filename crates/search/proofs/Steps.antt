@@ -1,0 +1,295 @@
+-- The two functions of the cycle: one law for each of their needs, named after the place in the code.
+use mathlib.Core.Path.{_≡_, refl, sym, ap, subst, _∙_}
+use mathlib.Core.Bool.{Bool, true, false}
+use mathlib.Core.List.{List, [], _∷_, _++_, flatMap, map, map-map, map-append, List·Memᴰ·head, List·Memᴰ·tail}
+use mathlib.Core.Logic.{⊎-elim, _⊎_, inl, inr}
+use Prim.Native.Nat.{ℕ, zero, suc, _+_, _-_, _*_, _≤_, _<_}
+use lib.ListN.{length, getD, set, length-set}
+use lib.Seq.{slice, slice-cons, slice-empty, getD-set-same, getD-set-other, set-set, set-getD}
+use lib.Dec.{eqb}
+use native.Mathlib.Omega.{arith}
+use native.Mathlib.Numerals.{add-one, sub-one}
+use borrow.Author.Tests.{eq-eqb, ne-eqb}
+use Rattle.ways.specs.Graph.{Graph, _∈_, pick, among}
+use Rattle.ways.specs.Order.{Rising}
+use Rattle.ways.specs.Listing.{by, ways}
+use Rattle.ways.proofs.Members.{flatMap-append, mem-split}
+use Rattle.ways.proofs.Rising.{rising-below, rising-above}
+use Rattle.compact.specs.Compact.{persons, graphOf, Compact}
+use Rattle.search.specs.Face.{size}
+use Rattle.search.specs.Pages.{Page, page, emit, emits, recordWith, Room, Handed}
+use Rattle.search.specs.Bookmarks.{restOf, onward, Beginning, Tight, Beside}
+use Rattle.search.specs.Barriers.{Hold, trailRoom, Raising, Barren, Settling, Settled, Barred}
+use Rattle.search.specs.Walks.{seenOf, Marked, Ready, following, through, handed, next, GoneThrough, Entered}
+use Rattle.search.specs.declared.walk.Walk.{Walk}
+use Rattle.search.specs.declared.walk.Found.{Found}
+use Rattle.search.proofs.Cases.{same-or-not, lt-or-le}
+use Rattle.search.proofs.Writing.{record-end, record-last, emits-append, emits-more, emits-none, map-none}
+use Rattle.search.proofs.Resuming.{onward-loose, onward-none, onward-append, onward-end}
+use Rattle.search.proofs.Pruning.{barred-none, barred-trans, barred-settle, hold-push}
+
+-- ---- the chain and the marks
+
+-- a store behind the chain's end changes nobody in it
+seen-set : (chain : List ℕ) (n i x : ℕ) → n < i → seenOf (set chain i x) n ≡ seenOf chain n
+unfolding seenOf
+seen-set chain zero i x h = refl
+seen-set chain (suc n) i x h = rw (getD-set-other chain i (suc n) x 0 (λ e. omega arith), seen-set chain n i x (omega arith))
+
+-- one more in the chain
+seen-more : (chain : List ℕ) (n x : ℕ) → n + 1 < length chain → seenOf (set chain (n + 1) x) (n + 1) ≡ x ∷ seenOf chain n
+unfolding seenOf
+seen-more chain n x h = rw (add-one, getD-set-same chain (suc n) x 0 (omega arith), seen-set chain n (suc n) x (omega arith))
+
+pub marked-more : {marks : List Bool} {seen : List ℕ} (v : ℕ) → v < length marks → Marked marks seen → Marked (set marks v true) (v ∷ seen)
+unfolding among
+marked-more {marks} {seen} v h m = record {
+  each = λ u hu.
+      ⊎-elim
+      (λ e. rw (eq-eqb u v e, e) (getD-set-same marks v true false h))
+      (λ ne. rw (ne-eqb u v ne) (getD-set-other marks v u true false ne ∙ m .each u hu))
+      (same-or-not u v);
+}
+
+-- a mark made and taken back
+unmarked : (marks : List Bool) (v : ℕ) → getD marks v false ≡ false → set (set marks v true) v false ≡ marks
+unmarked marks v h = set-set marks v true false ∙ ap (set marks v) (sym h) ∙ set-getD marks v false
+
+-- ---- the last hop: nobody but t can follow, and t stands once in the row
+
+last-none : (g : Graph) (t : ℕ) (seen row : List ℕ) → ((x : ℕ) → x ∈ row → x ≡ t → ⊥) → flatMap (by t seen (ways g t 0)) row ≡ []
+unfolding flatMap by ways
+last-none g t seen [] h = refl
+last-none g t seen (x ∷ row) h = rw (ne-eqb x t (h x (List·Memᴰ·head refl)), last-none g t seen row (λ y m. h y (List·Memᴰ·tail m))) (go (among x seen))
+  where
+    go : (b : Bool) → _≡_ {A = List (List ℕ)} (pick b [] [] ++ []) []
+    go true = refl
+    go false = refl
+
+last-hop : (g : Graph) (t p : ℕ) (seen : List ℕ) → Rising _<_ (g p) → t ∈ g p → ways g t 1 seen p ≡ (t ∷ []) ∷ []
+unfolding ways flatMap by
+last-hop g t p seen r m =
+    let q = mem-split m in
+    let u : Rising _<_ (q .0 ++ t ∷ q .1) = subst (Rising _<_) (q .2) r in
+    rw (q .2, flatMap-append (by t seen (ways g t 0)) (q .0) (t ∷ q .1), eq-eqb t t refl)
+    (rw (last-none g t seen (q .0) (λ x i e. let h = rising-below _<_ (q .1) i u in omega arith), last-none g t seen (q .1) (λ x i e. let h = rising-above _<_ t (q .0) (q .1) u x i in omega arith)))
+
+module _ {rows targets bookmark : List ℕ} {marks : List Bool} {out barriers trail chain : List ℕ} {w : Walk} {v : ℕ} {found : Found}
+    (k : Ready rows targets bookmark marks out barriers trail chain w v found) where
+  here : Barred (graphOf rows targets) (w .to) (seenOf chain (w .len)) (w .left) barriers barriers trail trail (found .trail) (found .trail)
+  here = barred-none (k .hold) (omega (arith, k .fits, k .trails))
+
+  -- v stands before the bookmark's next person
+  pub enter-skipped : {s : ℕ} → Beside bookmark w v s → s ≡ 2 → Entered rows targets bookmark marks marks out out barriers barriers trail trail chain w v found found
+  unfolding by emits
+  enter-skipped {s} side e = record { same = refl; barred = here; right = go (eqb v (w .to)) (among v (seenOf chain (w .len))) (ways (graphOf rows targets) (w .to) (w .left - 1) (v ∷ seenOf chain (w .len)) v) }
+    where
+      go : (a b : Bool) (ws : List (List ℕ)) → page found out ≡ emits (w .room) (page found out) (map (recordWith chain (w .len)) (onward (w .tight) (restOf bookmark (w .len)) (pick a ((v ∷ []) ∷ []) (pick b [] (map (_∷_ v) ws)))))
+      go true b ws = rw (side .skipped e ([] ∷ []))
+      go false true ws = rw onward-none
+      go false false ws = rw (side .skipped e ws)
+
+  -- v is To, and the bookmark's last person
+  pub enter-bookmark : {s : ℕ} → Beside bookmark w v s → (s ≡ 2 → ⊥) → (s ≡ 0 → ⊥) → v ≡ w .to → Entered rows targets bookmark marks marks out out barriers barriers trail trail chain w v found found
+  unfolding by emits
+  enter-bookmark {s} side n2 n0 h = record { same = refl; barred = here; right = rw (eq-eqb v (w .to) h, side .on n2 ([] ∷ []), onward-end s (restOf bookmark (w .len + 1)) n0) }
+
+  -- v is To
+  pub end-room : Room out chain w (w .len) found
+  end-room = record { room = k .room; long = k .long; behind = omega arith; short = omega (arith, k .short, k .some); none = k .none }
+
+  pub enter-end : {out′ : List ℕ} {r : Found} {s : ℕ} → Beside bookmark w v s → s ≡ 0 → v ≡ w .to → Handed out out′ chain w v (w .len) found r
+      → Entered rows targets bookmark marks marks out out′ barriers barriers trail trail chain w v found r
+  unfolding by emits
+  enter-end {s = s} side z e h = record {
+    same = refl;
+    barred = rw (h .trail) here;
+    right = rw (eq-eqb v (w .to) e, side .on (λ q. omega arith) ([] ∷ []), onward-loose s (restOf bookmark (w .len + 1)) ([] ∷ []) z, e) (rw (e, record-end) at (h .right));
+  }
+
+  known : getD marks v false ≡ among v (seenOf chain (w .len))
+  known = k .marked .each v (k .place)
+
+  -- v is in the chain
+  pub enter-marked : (v ≡ w .to → ⊥) → getD marks v false ≡ true → Entered rows targets bookmark marks marks out out barriers barriers trail trail chain w v found found
+  unfolding by emits
+  enter-marked ne h = record { same = refl; barred = here; right = rw (ne-eqb v (w .to) ne, ← known, h, onward-none) }
+
+  module _ (ne : v ≡ w .to → ⊥) (free : getD marks v false ≡ false) where
+    -- v's barrier is too high
+    pub enter-barred : w .left - 1 < getD barriers v 0 → Entered rows targets bookmark marks marks out out barriers barriers trail trail chain w v found found
+    unfolding by emits
+    enter-barred h = record { same = refl; barred = here; right = rw (ne-eqb v (w .to) ne, ← known, free, k .hold .sound v (w .left - 1) h, onward-none) }
+
+    module _ (low : getD barriers v 0 ≤ w .left - 1) where
+      -- whoever is not To has a barrier, so a hop is left behind v
+      two : 2 ≤ w .left
+      two = omega (arith, k .hold .far v (k .place) ne)
+
+      pub last-room : w .left - 1 ≡ 1 → Room out chain w (w .len + 1) found
+      last-room e = record { room = k .room; long = k .long; behind = omega arith; short = omega (arith, k .short, two); none = k .none }
+
+      -- the last hop
+      pub enter-last : {out′ : List ℕ} {r : Found} {s : ℕ} → Beside bookmark w v s → s ≡ 0 → w .left - 1 ≡ 1 → Handed out out′ chain w v (w .len + 1) found r
+          → Entered rows targets bookmark marks marks out out′ barriers barriers trail trail chain w v found r
+      unfolding by emits
+      enter-last {s = s} side z e h =
+          let only : ways (graphOf rows targets) (w .to) (w .left - 1) (v ∷ seenOf chain (w .len)) v ≡ (w .to ∷ []) ∷ [] = rw e (last-hop (graphOf rows targets) (w .to) v (v ∷ seenOf chain (w .len)) (k .graph .rising v) (k .hold .near v (k .place) ne (omega (arith, low, e)))) in
+          record {
+            same = refl;
+            barred = rw (h .trail) here;
+            right = rw (ne-eqb v (w .to) ne, ← known, free, only, side .on (λ q. omega arith) ((w .to ∷ []) ∷ []), onward-loose s (restOf bookmark (w .len + 1)) ((w .to ∷ []) ∷ []) z) (rw record-last at (h .right));
+          }
+
+      seen-next : seenOf (set chain (w .len + 1) v) (w .len + 1) ≡ v ∷ seenOf chain (w .len)
+      seen-next = seen-more chain (w .len) v (omega (arith, k .short, k .long, two))
+
+      -- while v is the bookmark's next person and not To, the bookmark goes on behind v
+      next-tight : {s : ℕ} → Beside bookmark w v s → (s ≡ 2 → ⊥) → Tight bookmark (next w s)
+      next-tight {s} side n2 = record {
+        begins = λ z.
+            let b = side .same n2 z in
+            let q = k .tight .begins (b .0) in
+            record {
+              cells = q .cells;
+              fits = q .fits;
+              on = ⊎-elim (λ l. omega arith) (λ l. absurd (ne (b .1 ∙ ap (λ (n : ℕ). getD bookmark (n + 1) 0) (let m : w .len ≡ getD bookmark 0 0 = omega (arith, q .on, l) in m) ∙ q .ends))) (lt-or-le (w .len) (getD bookmark 0 0));
+              ends = q .ends;
+            };
+      }
+
+      pub enter-ready : {s : ℕ} → Beside bookmark w v s → (s ≡ 2 → ⊥) → Ready rows targets bookmark (set marks v true) out barriers trail (set chain (w .len + 1) v) (next w s) v found
+      enter-ready side n2 = record {
+        graph = k .graph;
+        place = k .place;
+        wide = length-set marks v true ∙ k .wide;
+        marked = rw seen-next (marked-more v (omega (arith, k .wide, k .place)) (k .marked));
+        long = length-set chain (w .len + 1) v ∙ k .long;
+        some = omega (arith, two);
+        short = omega (arith, k .short, two);
+        room = k .room;
+        tight = next-tight side n2;
+        hold = rw seen-next (hold-push v (k .hold));
+        trails = k .trails;
+        fits = k .fits;
+        none = k .none;
+      }
+
+      module _ {marks′ : List Bool} {out′ barriers₁ trail₁ : List ℕ} {r : Found} {s : ℕ}
+          (done : GoneThrough rows targets bookmark (set marks v true) marks′ out out′ barriers barriers₁ trail trail₁ (set chain (w .len + 1) v) (next w s) v found r) where
+        on-barred : Barred (graphOf rows targets) (w .to) (v ∷ seenOf chain (w .len)) (w .left - 1) barriers barriers₁ trail trail₁ (found .trail) (r .trail)
+        on-barred = rw seen-next at (done .barred)
+
+        -- nothing was found, so no way leads on from v
+        on-dead : Barren s found r → ways (graphOf rows targets) (w .to) (w .left - 1) (v ∷ seenOf chain (w .len)) v ≡ []
+        on-dead f =
+            let right = rw seen-next at (done .right) in
+            let none = emits-none (w .room) (page found out) _ (sym (ap (λ (q : Page). q .more) right) ∙ f .none) (sym (ap (λ (q : Page). q .count) right) ∙ f .same) in
+            sym (onward-loose s _ _ (f .loose)) ∙ map-none _ _ none
+
+        pub enter-settling : Settling barriers₁ trail₁ v (w .left) found r
+        enter-settling = record {
+          raising = record {
+            place = k .place;
+            wide = on-barred .hold .long;
+            old = on-barred .hold .low v;
+            new = omega (arith, k .short);
+            room = on-barred .trailed .long ∙ k .trails;
+            fits = omega (arith, on-barred .trailed .fits, on-barred .trailed .long, k .trails);
+          };
+          rise = on-barred .trailed .rise;
+        }
+
+        pub enter-left : {barriers₂ trail₂ : List ℕ} {n : ℕ} → Beside bookmark w v s → (s ≡ 2 → ⊥) → Settled barriers₁ barriers₂ trail₁ trail₂ v s (w .left) found r n
+            → Entered rows targets bookmark marks (set marks′ v false) out out′ barriers barriers₂ trail trail₂ chain w v found (record { count = r .count; more = r .more; trail = n })
+        unfolding by recordWith
+        enter-left {barriers₂} {trail₂} {n} side n2 settled =
+            let left : suc (w .left - 1) ≡ w .left = omega (arith, k .some) in
+            record {
+              same = ap (λ (m : List Bool). set m v false) (done .same) ∙ unmarked marks v free;
+              right = rw (ne-eqb v (w .to) ne, ← known, free, side .on n2, map-map) (rw seen-next at (done .right));
+              barred = rw left at (barred-settle {h = w .left - 1} (k .place) (omega (arith, two)) (omega (arith, k .short)) (k .hold) on-barred on-dead (rw (← left) at settled));
+            }
+
+-- ---- going through the links
+
+-- the ways on through each link from cell i on
+abbrev pub still : List ℕ → List ℕ → List ℕ → List ℕ → Walk → ℕ → ℕ → List (List ℕ)
+still rows targets bookmark chain w i end = onward (w .tight) (restOf bookmark (w .len)) (flatMap (by (w .to) (seenOf chain (w .len)) (ways (graphOf rows targets) (w .to) (w .left - 1))) (slice i end targets))
+
+-- the loop's invariant: what was handed over, with what is still to come, is all
+pub record Turning (rows targets bookmark : List ℕ) (marks₀ : List Bool) (out₀ barriers₀ trail₀ chain : List ℕ) (w : Walk) (at end : ℕ) (found₀ : Found) (marks : List Bool) (out barriers trail : List ℕ) (i : ℕ) (found : Found) : Type 0 where
+  pub ready : Ready rows targets bookmark marks₀ out₀ barriers₀ trail₀ chain w at found₀
+  pub barred : Barred (graphOf rows targets) (w .to) (seenOf chain (w .len)) (w .left) barriers₀ barriers trail₀ trail (found₀ .trail) (found .trail)
+  pub same : marks ≡ marks₀
+  pub long : length out ≡ length out₀
+  pub within : i ≤ end
+  pub bound : end ≤ length targets
+  pub none : found .more ≡ 0
+  pub right : handed chain w (page found out) (still rows targets bookmark chain w i end) ≡ handed chain w (page found₀ out₀) (following rows targets bookmark chain w at)
+
+-- the ways on from a person, by his links
+ways-links : (g : Graph) (t k : ℕ) (seen : List ℕ) (p : ℕ) → 1 ≤ k → ways g t k seen p ≡ flatMap (by t seen (ways g t (k - 1))) (g p)
+unfolding ways
+ways-links g t zero seen p h = absurd (omega arith)
+ways-links g t (suc k) seen p h = rw sub-one
+
+module _ {rows targets bookmark : List ℕ} {marks : List Bool} {out barriers trail chain : List ℕ} {w : Walk} {at : ℕ} {found : Found} where
+  pub go-start : Ready rows targets bookmark marks out barriers trail chain w at found
+      → Turning rows targets bookmark marks out barriers trail chain w at (getD rows (at + 1) 0) found marks out barriers trail (getD rows at 0) found
+  go-start k = record {
+    ready = k;
+    barred = barred-none (k .hold) (omega (arith, k .fits, k .trails));
+    same = refl;
+    long = refl;
+    within = k .graph .rise at (k .place);
+    bound = k .graph .ends at (k .place);
+    none = k .none;
+    right = rw (ways-links (graphOf rows targets) (w .to) (w .left) (seenOf chain (w .len)) at (k .some));
+  }
+
+  module _ {end : ℕ} {marks′ : List Bool} {out′ barriers′ trail′ : List ℕ} {i : ℕ} {found′ : Found} (inv : Turning rows targets bookmark marks out barriers trail chain w at end found marks′ out′ barriers′ trail′ i found′) where
+    pub go-enter : i < end → Ready rows targets bookmark marks′ out′ barriers′ trail′ chain w (getD targets i 0) found′
+    go-enter lt = let k = inv .ready in record {
+      graph = k .graph;
+      place = k .graph .people i (omega (arith, inv .bound));
+      wide = ap length (inv .same) ∙ k .wide;
+      marked = rw (inv .same) (k .marked);
+      long = k .long;
+      some = k .some;
+      short = k .short;
+      room = omega (arith, k .room, inv .long);
+      tight = k .tight;
+      hold = inv .barred .hold;
+      trails = inv .barred .trailed .long ∙ k .trails;
+      fits = omega (arith, inv .barred .trailed .fits, inv .barred .trailed .long, k .trails);
+      none = inv .none;
+    }
+
+    module _ {marks″ : List Bool} {out″ barriers″ trail″ : List ℕ} {found″ : Found} (lt : i < end)
+        (e : Entered rows targets bookmark marks′ marks″ out′ out″ barriers′ barriers″ trail′ trail″ chain w (getD targets i 0) found′ found″) where
+      step-right : handed chain w (page found″ out″) (still rows targets bookmark chain w (i + 1) end) ≡ handed chain w (page found out) (following rows targets bookmark chain w at)
+      unfolding flatMap
+      step-right = rw (e .right, ← emits-append, ← map-append, ← onward-append, add-one i) (rw (slice-cons i end targets 0 lt (inv .bound)) at (inv .right))
+
+      -- one more than there is room for was seen: nothing else is handed over
+      pub go-stop : (found″ .more ≡ 0 → ⊥) → GoneThrough rows targets bookmark marks marks″ out out″ barriers barriers″ trail trail″ chain w at found found″
+      go-stop n = record { same = e .same ∙ inv .same; barred = barred-trans (inv .barred) (e .barred); right = sym (emits-more (w .room) (page found″ out″) _ n) ∙ step-right }
+
+      pub go-turn : length out″ ≡ length out′ → found″ .more ≡ 0 → Turning rows targets bookmark marks out barriers trail chain w at end found marks″ out″ barriers″ trail″ (i + 1) found″
+      go-turn long n = record {
+        ready = inv .ready;
+        barred = barred-trans (inv .barred) (e .barred);
+        same = e .same ∙ inv .same;
+        long = long ∙ inv .long;
+        within = omega arith;
+        bound = inv .bound;
+        none = n;
+        right = step-right;
+      }
+
+    pub go-end : end ≤ i → GoneThrough rows targets bookmark marks marks′ out out′ barriers barriers′ trail trail′ chain w at found found′
+    unfolding flatMap emits
+    go-end h =
+        let e : i ≡ end = omega (arith, inv .within) in
+        record { same = inv .same; barred = inv .barred; right = rw (e, slice-empty end targets, onward-none) at (inv .right) }

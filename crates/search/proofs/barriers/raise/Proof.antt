@@ -1,0 +1,28 @@
+-- `raise` puts the old barrier on the trail, or changes nothing.
+use Rattle.search.proofs.Pruning.{raise-none, raise-set}
+use borrow.Author.Needs.{needs}
+use Rattle.search.proofs.barriers.raise.Statement.{statement}
+use Rattle.search.proofs.barriers.raise.Tie as tie
+
+returns : tie.Need-returns
+returns c = search raise-none
+
+returns-2 : tie.Need-returns-2
+returns-2 c = search raise-set
+
+pub raise-spec : {M : Type 1} → statement M
+raise-spec =
+    tie.close
+    (tie.spec
+    returns
+    (λ c. search needs)
+    (λ c. search needs)
+    (λ c κs. search needs)
+    (λ c. search needs)
+    (λ c. search needs)
+    (λ c. search needs)
+    (λ c. search needs)
+    (λ c. search needs)
+    (λ c. search needs)
+    (λ c. search needs)
+    returns-2)

@@ -1,0 +1,82 @@
+// The search: entering a person, and going through that person's links. It lists the chains of the compact graph in
+// dictionary order, from a bookmark on, as records, until there is no more room, and says whether one more follows.
+// One face, `list`, lends marks, barriers and trail down to two functions that call each other in a cycle. What it promises
+// speaks of the listing alone. Pruning, by the fewest hops at first and by barriers from then on, changes no listing:
+// that is proved, and how little is left to enter is measured.
+ghost use Rattle.search.specs.Face.{Asked, Answered};
+
+mod barriers;
+mod bookmark;
+mod records;
+mod walk;
+
+use compact::LINKS;
+use compact::PERSONS;
+use compact::STARTS;
+use walk::Found;
+use walk::Walk;
+
+// A chain record has ten cells: the hops, the persons, zeros.
+pub const RECORD: usize = 10;
+
+// A chain has at most eight hops.
+pub const HOPS: usize = 8;
+
+// How many chains were written, and whether one more follows (1) or none (0).
+pub struct Listed {
+    pub count: usize,
+    pub more: usize,
+}
+
+// Writes the chains from `from` to `to` of at most `hops` hops, those behind the bookmark where the listing was
+// started, as records to `out` while there is room. `fewest` has each person's fewest hops to `to`.
+pub fn list(
+    rows: &[u16; STARTS],
+    targets: &[u16; LINKS],
+    fewest: &[u8; PERSONS],
+    from: u32,
+    to: u32,
+    hops: usize,
+    started: u32,
+    bookmark: &[u32],
+    out: &mut [u32],
+) -> Listed
+    requires { ⌜ Asked (now rows) (now targets) (now fewest) from to hops started (now bookmark) ⌝ }
+    ensures { λ r. ⌜ Answered (now (rows .entry)) (now (targets .entry)) from to hops started (now (bookmark .entry)) (now (out .entry)) (now (out .exit)) r ⌝ }
+{
+    let mut marks = [false; PERSONS];
+    let mut barriers = *fewest;
+    let mut trail = [0u16; walk::TRAIL];
+    let mut chain = [0u32; RECORD];
+    let at = from as usize;
+    chain[1] = from;
+    marks[at] = true;
+    let room = out.len() / RECORD;
+    let found = walk::go_through(
+        rows,
+        targets,
+        bookmark,
+        &mut marks,
+        out,
+        &mut barriers,
+        &mut trail,
+        chain,
+        Walk {
+            to: to,
+            tight: started,
+            room: room,
+            len: 1,
+            left: hops,
+        },
+        at,
+        Found {
+            count: 0,
+            more: 0,
+            trail: 0,
+        },
+    );
+    Listed {
+        count: found.count,
+        more: found.more,
+    }
+}
