@@ -219,6 +219,7 @@ module _ {file : List ℕ} {counts : Counts} {q : Question} {person end : ℕ} {
     graph = graph;
     compact = record {
       starts = f .rows;
+      room = f .links;
       rise = λ p l. f .rise p (omega arith);
       ends = λ p l. omega (arith, f .ends p (omega arith), f .within, f .links);
       people = f .people;

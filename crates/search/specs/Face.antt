@@ -41,6 +41,6 @@ pub record Asked (rows targets fewest : List ℕ) (from to hops started : ℕ) (
 
 -- so many chains of the portion there are, another follows or none, and just their records are written
 pub record Answered (rows targets : List ℕ) (from to hops started : ℕ) (bookmark out out′ : List ℕ) (r : Listed) : Type 0 where
-  pub count : r .count ≡ length (portion (roomOf size out) (markOf started bookmark) (listing (graphOf rows targets) from to hops))
-  pub more : r .more ≡ pick (endedAfter (roomOf size out) (markOf started bookmark) (listing (graphOf rows targets) from to hops)) 0 1
-  pub cells : out′ ≡ written size (portion (roomOf size out) (markOf started bookmark) (listing (graphOf rows targets) from to hops)) out
+  pub count : r .count ≡ length (portion (roomOf size (length out)) (markOf started bookmark) (listing (graphOf rows targets) from to hops))
+  pub more : r .more ≡ pick (endedAfter (roomOf size (length out)) (markOf started bookmark) (listing (graphOf rows targets) from to hops)) 0 1
+  pub cells : out′ ≡ written size (portion (roomOf size (length out)) (markOf started bookmark) (listing (graphOf rows targets) from to hops)) out
