@@ -1,6 +1,7 @@
 // Whether a bookmark is the record of a chain, cell by cell.
-use compact::{LINKS, PERSONS, STARTS};
-
+use compact::LINKS;
+use compact::PERSONS;
+use compact::STARTS;
 ghost use mathlib.Core.Path.{_≡_};
 ghost use Prim.Native.Nat.{_+_, _≤_, _<_};
 ghost use lib.ListN.{length, getD, drop};
@@ -45,13 +46,7 @@ fn stands(cells: &[u32], first: usize, end: usize, person: u32) -> bool
 }
 
 // Whether the cells from 1 up to `last` run from person to person by links, nobody twice, to the end person.
-fn run(
-    starts: &[u16; STARTS],
-    targets: &[u16; LINKS],
-    cells: &[u32],
-    last: usize,
-    to: u32,
-) -> bool
+fn run(starts: &[u16; STARTS], targets: &[u16; LINKS], cells: &[u32], last: usize, to: u32) -> bool
     requires { ⌜ (Compact (now starts) (now targets)) × (1 ≤ last) × (last < length (now cells)) ⌝ }
     ensures { λ r. ⌜ r ≡ runs (graphOf (now (starts .entry)) (now (targets .entry))) to (slice 1 (last + 1) (now (cells .entry))) ⌝ }
 {

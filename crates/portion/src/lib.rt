@@ -6,7 +6,6 @@
 pub mod bookmark;
 
 use question::Question;
-
 ghost use Rattle.portion.specs.Listing.{startSaid};
 ghost use Rattle.portion.specs.Answers.{Portioned};
 

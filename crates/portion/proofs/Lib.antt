@@ -1,0 +1,2 @@
+pub mod Bookmarks
+pub mod Cells
