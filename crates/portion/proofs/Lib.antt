@@ -1,2 +1,3 @@
 pub mod Bookmarks
 pub mod Cells
+pub mod Starting

@@ -1,3 +1,4 @@
 pub mod Listing
 pub mod Bookmark
+pub mod Inside
 pub mod Answers
