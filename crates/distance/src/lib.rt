@@ -20,10 +20,7 @@ ghost use Rattle.distance.specs.Inside.{Passes};
 // What fewest hops answers: the hops, one more than the question's where To is not in reach, or the refusal and its place.
 pub enum Answer {
     Hops(u32),
-    Refused {
-        number: u32,
-        place: u32,
-    },
+    Refused { number: u32, place: u32 },
 }
 
 // The fewest hops from a person to To over admitted links.
@@ -52,7 +49,13 @@ fn counted(file: &[u8], question: Question, person: u32) -> u32
 {
     let mut starts = [0u16; 1025];
     let mut targets = [0u16; 4096];
-    filling::fill(file, header::counts(file), question, &mut starts, &mut targets);
+    filling::fill(
+        file,
+        header::counts(file),
+        question,
+        &mut starts,
+        &mut targets,
+    );
     let cells = table::distances(&starts, &targets, question.to as usize, question.hops as u8);
     let at = person as usize;
     cells[at] as u32

@@ -26,18 +26,18 @@ slice-aggregate-round : tie.Need-slice-aggregate-round Inv-loop μ-loop
 slice-aggregate-round c = sym (c .before .before .loop .inv .1 .size)
 
 round-requires : tie.Need-round-requires Inv-loop μ-loop
-round-requires c κs = 
+round-requires c κs =
     let at-start = c .before .before .before .before .before in
     record { compact = at-start .pre .compact; size = c .before .before .loop .inv .1 .size; further = c .before .loop-test .taken; hops = at-start .pre .hops }
 
 returns : tie.Need-returns Inv-loop μ-loop
-returns c = 
+returns c =
     let at-start = c .before .before .before .before .before .before .before .before in
     let at-round = c .before .before .round in
     rounds-calm (at-start .pre .compact) (c .before .before .before .before .loop-test .taken) (c .before .before .before .before .before .loop .inv .1) (at-round .ensures) (not-true (at-round .result) (c .if1 .taken))
 
 add-hops : tie.Need-add-hops Inv-loop μ-loop
-add-hops c = 
+add-hops c =
     let at-start = c .before .before .before .before .before .before .before .before in
     omega (arith, c .before .before .before .before .loop-test .taken, at-start .pre .hops)
 
@@ -45,7 +45,7 @@ loop-less : tie.Need-loop-less Inv-loop μ-loop
 loop-less c = omega (arith, c .before .before .before .before .loop-test .taken)
 
 loop-again : tie.Need-loop-again Inv-loop μ-loop
-loop-again c = 
+loop-again c =
     let at-loop-test = c .before .before .before .before .loop-test in
     let at-start = c .before .before .before .before .before .before .before .before in
     (omega (arith, at-loop-test .taken), rounds-next (at-start .pre .compact) (at-loop-test .taken) (c .before .before .before .before .before .loop .inv .1) (c .before .before .round .ensures))

@@ -37,7 +37,7 @@ loop-holds : tie.Need-loop-holds Inv-loop μ-loop
 loop-holds c = passing-starts (c .before .before .pre) refl refl
 
 mul-target : tie.Need-mul-target Inv-loop μ-loop
-mul-target c = 
+mul-target c =
     let at-start = c .before .before .before .before in
     let ends = row-ends (at-start .pre) refl in omega (arith, c .loop-test .taken, ends, at-start .good)
 
@@ -48,7 +48,7 @@ cast-target : tie.Need-cast-target Inv-loop μ-loop
 cast-target c = let low = passing-person (c .before .before .before .before .before .pre) refl (c .before .before .loop .inv) (c .before .loop-test .taken) in omega (arith, low)
 
 shared-slice-read-if1 : tie.Need-shared-slice-read-if1 Inv-loop μ-loop
-shared-slice-read-if1 c = 
+shared-slice-read-if1 c =
     let at-start = c .before .before .before .before .before .before in
     let low = passing-person (at-start .pre) refl (c .before .before .before .loop .inv) (c .before .before .loop-test .taken) in omega (arith, low, at-start .pre .size)
 
@@ -56,7 +56,7 @@ returns : tie.Need-returns Inv-loop μ-loop
 returns c = passing-finds (c .before .before .before .before .before .before .before .pre) refl (c .before .before .before .before .loop .inv) (c .before .before .before .loop-test .taken) (c .if1 .taken)
 
 add-at : tie.Need-add-at Inv-loop μ-loop
-add-at c = 
+add-at c =
     let at-start = c .before .before .before .before .before .before .before in
     let ends = row-ends (at-start .pre) refl in omega (arith, c .before .before .before .loop-test .taken, ends, at-start .good)
 

@@ -23,12 +23,12 @@ add-if1 : tie.Need-add-if1 Inv-loop μ-loop
 add-if1 c = omega (arith, c .before .before .before .before .before .before .pre .hops)
 
 leads-requires : tie.Need-leads-requires Inv-loop μ-loop
-leads-requires c κs = 
+leads-requires c κs =
     let at-start = c .before .before .before .before .before .before .before .before in
     stepping-looks (at-start .pre) (c .before .before .before .before .loop .inv) (c .before .before .before .loop-test .taken)
 
 add-cells : tie.Need-add-cells Inv-loop μ-loop
-add-cells c = 
+add-cells c =
     let at-start = c .before .before .before .before .before .before .before .before .before .before in
     omega (arith, at-start .pre .hops, at-start .pre .further)
 
@@ -42,7 +42,7 @@ loop-less : tie.Need-loop-less Inv-loop μ-loop
 loop-less c = omega (arith, c .before .before .loop-test .taken)
 
 loop-again : tie.Need-loop-again Inv-loop μ-loop
-loop-again c = 
+loop-again c =
     let at-start = c .before .before .before .before .before .before .before in
     let at-loop = c .before .before .before .loop in
     let at-loop-test = c .before .before .loop-test in
