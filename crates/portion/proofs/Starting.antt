@@ -110,5 +110,5 @@ module _ {file : List ℕ} {q : Question} {starts targets out : List ℕ} (p : P
       let graph = filled-next f in
       record {
         answers = rw (none, more-ended (endedAfter (roomOf recordSize (length out)) (search.markOf started cells) (listing (graphOf starts targets) (q .from) (q .to) (q .hops))) (found .more) (a .more), a .count, mark, graph);
-        cells = rw (none, ← graph, ← mark) (a .cells)
+        cells = rw (none, ← graph, ← mark) (a .cells);
       }

@@ -5,13 +5,13 @@
 // Portions laid end to end are the listing: the law stands in proofs/, over this operation's own promise.
 pub mod bookmark;
 
-use compact::{LINKS, STARTS};
+use compact::LINKS;
+use compact::STARTS;
 use distance::table;
 use linkfile::Fault;
 use linkfile::header;
 use question::Question;
 use question::filling;
-
 ghost use Rattle.portion.specs.Listing.{startSaid};
 ghost use Rattle.portion.specs.Inside.{Passes};
 ghost use Rattle.portion.specs.Answers.{Portioned};
@@ -75,12 +75,7 @@ fn listed(
             place: 0,
         };
     }
-    let fewest = table::distances(
-        &starts,
-        &targets,
-        question.to as usize,
-        question.hops as u8,
-    );
+    let fewest = table::distances(&starts, &targets, question.to as usize, question.hops as u8);
     let found = search::list(
         &starts,
         &targets,
