@@ -335,7 +335,7 @@ fn every_split_of_small_listings() {
     let mut random = Random::of_test("every_split_of_small_listings");
     let mut by_count = [0; 8];
     Asked::six_persons(Q).by_rooms(&[]);
-    for _ in 0..3_000 {
+    for _ in 0..15_000 {
         let asked = random_asked(&mut random, 7);
         let count = asked.chains().len();
         if count < 8 && by_count[count] < 25 {
@@ -353,8 +353,15 @@ fn every_split_of_small_listings() {
 fn random_splits_of_larger_listings() {
     let mut random = Random::of_test("random_splits_of_larger_listings");
     let mut longest = 0;
-    for _ in 0..300 {
-        let asked = random_asked(&mut random, 9);
+    for round in 0..120 {
+        let asked = if round % 2 == 0 {
+            random_asked(&mut random, 9)
+        } else {
+            let persons = random.between(6, 8);
+            let parts = random.between(6, 10);
+            let file = random_graph(&mut random, persons, parts).bytes();
+            Asked::new(file, first_to_last(persons, 8))
+        };
         longest = longest.max(asked.chains().len());
         let most = random.one_of(&[3, 20, 200]);
         let rooms: Vec<usize> = (0..2_000).map(|_| random.between(1, most)).collect();
