@@ -242,6 +242,23 @@ fn the_shortest_way_lies_in_a_skipped_branch() {
 }
 
 #[test]
+fn a_person_is_entered_again_with_one_hop_more() {
+    // 4 fails under 3 and 1 with two hops left, since its short way goes back over 3; with three hops it has another.
+    let pairs = [
+        (0, 3),
+        (1, 4),
+        (2, 6),
+        (3, 1),
+        (3, 4),
+        (3, 6),
+        (4, 3),
+        (4, 5),
+        (5, 2),
+    ];
+    lists_of_graph(7, &pairs, 5, &[&[0, 3, 4, 5, 2, 6], &[0, 3, 6]]);
+}
+
+#[test]
 fn several_kinds_in_one_small_graph() {
     let mut file = files::undated(5, &[(0, 1), (0, 3), (1, 2), (1, 4), (2, 1), (3, 2)]);
     file.rows[0][0].kind = 5;
@@ -417,8 +434,8 @@ fn random_graph(random: &mut Random, persons: usize, parts: usize) -> LinkFile {
 #[test]
 fn random_graphs_resumed_at_every_chain() {
     let mut random = Random::of_test("random_graphs_resumed_at_every_chain");
-    for _ in 0..10_000 {
-        let persons = random.between(4, 8);
+    for _ in 0..40_000 {
+        let persons = random.between(4, 9);
         let parts = random.between(1, 4);
         let file = random_graph(&mut random, persons, parts).bytes();
         let hops = random.between(2, 8) as u32;
@@ -435,7 +452,7 @@ fn random_graphs_resumed_at_every_chain() {
 fn two_way_families() {
     // Links both ways, as between relatives: ways close and reopen more often than in other graphs.
     let mut random = Random::of_test("two_way_families");
-    for _ in 0..2_000 {
+    for _ in 0..8_000 {
         let persons = random.between(5, 11);
         let mut pairs = vec![];
         for _ in 0..random.between(persons, 2 * persons) {
