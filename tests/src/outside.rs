@@ -140,9 +140,12 @@ pub fn portion(
 /// A portion with no output cells and no bookmark cells, both at the null pointer.
 pub fn portion_null(file: &[u8], question: &Question, started: u32) -> Result<Listed, Refusal> {
     let mut lent = Lent::new(file, ZONE_BYTE);
-    let nothing = (std::ptr::null_mut(), 0);
+    let no_bookmark = (std::ptr::null_mut(), 0);
+    let no_output = (std::ptr::null_mut(), 0);
     let file = (lent.pointer(), lent.length());
-    listed_or_refused(portion_call(file, question, started, nothing, nothing))
+    let answer = portion_call(file, question, started, no_bookmark, no_output);
+    lent.assert_as_it_came();
+    listed_or_refused(answer)
 }
 
 /// A fresh portion without a bookmark's cells at all.
@@ -151,11 +154,19 @@ pub fn portion_null_bookmark(
     question: &Question,
     out: &mut [u32],
 ) -> Result<Listed, Refusal> {
-    let mut lent = Lent::new(file, ZONE_BYTE);
-    let nothing = (std::ptr::null_mut(), 0);
-    let file = (lent.pointer(), lent.length());
-    let out = (out.as_mut_ptr(), out.len());
-    listed_or_refused(portion_call(file, question, 0, nothing, out))
+    let mut lent_file = Lent::new(file, ZONE_BYTE);
+    let mut lent_out = Lent::new(out, ZONE_CELL);
+    let answer = portion_call(
+        (lent_file.pointer(), lent_file.length()),
+        question,
+        0,
+        (std::ptr::null_mut(), 0),
+        (lent_out.pointer(), lent_out.length()),
+    );
+    lent_file.assert_as_it_came();
+    lent_out.assert_zones_as_they_came();
+    out.copy_from_slice(lent_out.contents());
+    listed_or_refused(answer)
 }
 
 /// The call itself; each slice is its pointer and its length.
