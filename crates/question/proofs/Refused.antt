@@ -43,13 +43,10 @@ proper n q from to rest =
     record {
       from = ltb-true (q .from) n from;
       to = ltb-true (q .to) n to;
-      differ = eqb-false (q .from) (q .to) (not-true' (eqb (q .from) (q .to)) (eleven .0));
+      differ = eqb-false (q .from) (q .to) (not-true (eqb (q .from) (q .to)) (eleven .0));
       some = hops .0;
       most = hops .1;
     }
-  where
-    not-true' : (b : Bool) → not b ≡ true → b ≡ false
-    not-true' = not-true
 
 pub question-proper : (n : ℕ) (q : Question) → questionFault n q ≡ sound → Proper n q
 unfolding questionFault
