@@ -23,13 +23,15 @@ seenOf chain (suc n) = getD chain (suc n) 0 ∷ seenOf chain n
 pub record Marked (marks : List Bool) (seen : List ℕ) : Type 0 where
   pub each : (v : ℕ) → v < persons → getD marks v false ≡ among v seen
 
--- what both functions ask: a graph, a person, marks of those in the chain, cells for the hops left, barriers that hold
-pub record Ready (rows targets bookmark : List ℕ) (marks : List Bool) (out barriers trail chain : List ℕ) (w : Walk) (at : ℕ) (found : Found) : Type 0 where
+-- what both functions ask: a graph, a person, marks of those in the chain, cells for the hops left and zeros in them,
+-- barriers that hold
+pub record Ready (rows targets bookmark : List ℕ) (marks : List Bool) (chain out barriers trail : List ℕ) (w : Walk) (at : ℕ) (found : Found) : Type 0 where
   pub graph : Compact rows targets
   pub place : at < persons
   pub wide : length marks ≡ persons
   pub marked : Marked marks (seenOf chain (w .len))
   pub long : length chain ≡ size
+  pub blank : (i : ℕ) → w .len < i → getD chain i 0 ≡ 0
   pub some : 1 ≤ w .left
   pub short : w .len + w .left < size
   pub room : w .room * size ≤ length out
@@ -55,14 +57,16 @@ handed chain w s ws = emits (w .room) s (map (recordWith chain (w .len)) ws)
 abbrev pub next : Walk → ℕ → Walk
 next w s = record { to = w .to; tight = s; room = w .room; len = w .len + 1; left = w .left - 1 }
 
--- going through a person's links hands over the ways on from him, and leaves the marks as they were
-pub record GoneThrough (rows targets bookmark : List ℕ) (marks marks′ : List Bool) (out out′ barriers barriers′ trail trail′ chain : List ℕ) (w : Walk) (at : ℕ) (found found′ : Found) : Type 0 where
+-- going through a person's links hands over the ways on from him, and leaves the marks and the chain as they were
+pub record GoneThrough (rows targets bookmark : List ℕ) (marks marks′ : List Bool) (chain chain′ out out′ barriers barriers′ trail trail′ : List ℕ) (w : Walk) (at : ℕ) (found found′ : Found) : Type 0 where
   pub same : marks′ ≡ marks
+  pub whole : chain′ ≡ chain
   pub right : page found′ out′ ≡ handed chain w (page found out) (following rows targets bookmark chain w at)
   pub barred : Barred (graphOf rows targets) (w .to) (seenOf chain (w .len)) (w .left) barriers barriers′ trail trail′ (found .trail) (found′ .trail)
 
 -- entering v hands over the ways on whose next person is v
-pub record Entered (rows targets bookmark : List ℕ) (marks marks′ : List Bool) (out out′ barriers barriers′ trail trail′ chain : List ℕ) (w : Walk) (v : ℕ) (found found′ : Found) : Type 0 where
+pub record Entered (rows targets bookmark : List ℕ) (marks marks′ : List Bool) (chain chain′ out out′ barriers barriers′ trail trail′ : List ℕ) (w : Walk) (v : ℕ) (found found′ : Found) : Type 0 where
   pub same : marks′ ≡ marks
+  pub whole : chain′ ≡ chain
   pub right : page found′ out′ ≡ handed chain w (page found out) (through rows targets bookmark chain w v)
   pub barred : Barred (graphOf rows targets) (w .to) (seenOf chain (w .len)) (w .left) barriers barriers′ trail trail′ (found .trail) (found′ .trail)

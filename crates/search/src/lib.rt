@@ -57,10 +57,10 @@ pub fn list(
         targets,
         bookmark,
         &mut marks,
+        &mut chain,
         out,
         &mut barriers,
         &mut trail,
-        chain,
         Walk {
             to: to,
             tight: started,

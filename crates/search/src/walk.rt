@@ -37,16 +37,16 @@ pub fn enter(
     targets: &[u16; LINKS],
     bookmark: &[u32],
     marks: &mut [bool; PERSONS],
+    chain: &mut [u32; RECORD],
     out: &mut [u32],
     barriers: &mut [u8; PERSONS],
     trail: &mut [u16; TRAIL],
-    chain: [u32; RECORD],
     w: Walk,
     v: u32,
     found: Found,
 ) -> Found
-    requires { ⌜ Ready (now rows) (now targets) (now bookmark) (now marks) (now out) (now barriers) (now trail) chain w v found ⌝ }
-    ensures { λ r. ⌜ Entered (now (rows .entry)) (now (targets .entry)) (now (bookmark .entry)) (now (marks .entry)) (now (marks .exit)) (now (out .entry)) (now (out .exit)) (now (barriers .entry)) (now (barriers .exit)) (now (trail .entry)) (now (trail .exit)) chain w v found r ⌝ }
+    requires { ⌜ Ready (now rows) (now targets) (now bookmark) (now marks) (now chain) (now out) (now barriers) (now trail) w v found ⌝ }
+    ensures { λ r. ⌜ Entered (now (rows .entry)) (now (targets .entry)) (now (bookmark .entry)) (now (marks .entry)) (now (marks .exit)) (now (chain .entry)) (now (chain .exit)) (now (out .entry)) (now (out .exit)) (now (barriers .entry)) (now (barriers .exit)) (now (trail .entry)) (now (trail .exit)) w v found r ⌝ }
 {
     let side = crate::bookmark::beside(bookmark, w, v);
     if side == 2 {
@@ -57,7 +57,7 @@ pub fn enter(
         if side != 0 {
             return found;
         }
-        return crate::records::hand_over(out, chain, w, v, w.len, found);
+        return crate::records::hand_over(out, *chain, w, v, w.len, found);
     }
     let at = v as usize;
     if marks[at] {
@@ -69,21 +69,20 @@ pub fn enter(
     }
     // The last hop is no search: the barrier says that To is next.
     if left == 1 && side == 0 {
-        return crate::records::hand_over(out, chain, w, v, w.len + 1, found);
+        return crate::records::hand_over(out, *chain, w, v, w.len + 1, found);
     }
     let len = w.len + 1;
-    let mut next = chain;
-    next[len] = v;
+    chain[len] = v;
     marks[at] = true;
     let got = go_through(
         rows,
         targets,
         bookmark,
         marks,
+        chain,
         out,
         barriers,
         trail,
-        next,
         Walk {
             to: w.to,
             tight: side,
@@ -95,6 +94,7 @@ pub fn enter(
         found,
     );
     marks[at] = false;
+    chain[len] = 0;
     let height = crate::barriers::settle(barriers, trail, at, side, w.left, found, got);
     Found {
         count: got.count,
@@ -109,16 +109,16 @@ pub fn go_through(
     targets: &[u16; LINKS],
     bookmark: &[u32],
     marks: &mut [bool; PERSONS],
+    chain: &mut [u32; RECORD],
     out: &mut [u32],
     barriers: &mut [u8; PERSONS],
     trail: &mut [u16; TRAIL],
-    chain: [u32; RECORD],
     w: Walk,
     at: usize,
     found: Found,
 ) -> Found
-    requires { ⌜ Ready (now rows) (now targets) (now bookmark) (now marks) (now out) (now barriers) (now trail) chain w at found ⌝ }
-    ensures { λ r. ⌜ GoneThrough (now (rows .entry)) (now (targets .entry)) (now (bookmark .entry)) (now (marks .entry)) (now (marks .exit)) (now (out .entry)) (now (out .exit)) (now (barriers .entry)) (now (barriers .exit)) (now (trail .entry)) (now (trail .exit)) chain w at found r ⌝ }
+    requires { ⌜ Ready (now rows) (now targets) (now bookmark) (now marks) (now chain) (now out) (now barriers) (now trail) w at found ⌝ }
+    ensures { λ r. ⌜ GoneThrough (now (rows .entry)) (now (targets .entry)) (now (bookmark .entry)) (now (marks .entry)) (now (marks .exit)) (now (chain .entry)) (now (chain .exit)) (now (out .entry)) (now (out .exit)) (now (barriers .entry)) (now (barriers .exit)) (now (trail .entry)) (now (trail .exit)) w at found r ⌝ }
 {
     let mut i = rows[at] as usize;
     let end = rows[at + 1] as usize;
@@ -129,10 +129,10 @@ pub fn go_through(
             targets,
             bookmark,
             marks,
+            chain,
             out,
             barriers,
             trail,
-            chain,
             w,
             targets[i] as u32,
             got,
