@@ -20,7 +20,7 @@ use Rattle.search.specs.Face.{size}
 use Rattle.search.specs.Pages.{Page, page, emit, emits, recordWith, Room, Handed}
 use Rattle.search.specs.Bookmarks.{restOf, onward, Beginning, Tight, Beside}
 use Rattle.search.specs.Barriers.{Hold, trailRoom, Raising, Barren, Settling, Settled, Barred}
-use Rattle.search.specs.Walks.{seenOf, Marked, Ready, following, through, handed, next, GoneThrough, Entered}
+use Rattle.search.specs.Walks.{seenOf, Marked, Ready, following, through, handed, next, noted, GoneThrough, Entered}
 use Rattle.search.specs.declared.walk.Walk.{Walk}
 use Rattle.search.specs.declared.walk.Found.{Found}
 use Rattle.search.proofs.Cases.{same-or-not, lt-or-le}
@@ -160,7 +160,7 @@ module _ {rows targets bookmark : List ℕ} {marks : List Bool} {chain out barri
             };
       }
 
-      pub enter-ready : {s : ℕ} → Beside bookmark w v s → (s ≡ 2 → ⊥) → Ready rows targets bookmark (set marks v true) (set chain (w .len + 1) v) out barriers trail (next w s) v found
+      pub enter-ready : {s : ℕ} → Beside bookmark w v s → (s ≡ 2 → ⊥) → Ready rows targets bookmark (set marks v true) (set chain (w .len + 1) v) out barriers trail (next w s) v (noted found)
       enter-ready side n2 = record {
         graph = k .graph;
         place = k .place;
@@ -175,11 +175,11 @@ module _ {rows targets bookmark : List ℕ} {marks : List Bool} {chain out barri
         hold = rw seen-next (hold-push v (k .hold));
         trails = k .trails;
         fits = k .fits;
-        none = k .none;
+        none = refl;
       }
 
       module _ {marks′ : List Bool} {chain′ out′ barriers₁ trail₁ : List ℕ} {r : Found} {s : ℕ}
-          (done : GoneThrough rows targets bookmark (set marks v true) marks′ (set chain (w .len + 1) v) chain′ out out′ barriers barriers₁ trail trail₁ (next w s) v found r) where
+          (done : GoneThrough rows targets bookmark (set marks v true) marks′ (set chain (w .len + 1) v) chain′ out out′ barriers barriers₁ trail trail₁ (next w s) v (noted found) r) where
         on-barred : Barred (graphOf rows targets) (w .to) (v ∷ seenOf chain (w .len)) (w .left - 1) barriers barriers₁ trail trail₁ (found .trail) (r .trail)
         on-barred = rw seen-next at (done .barred)
 
@@ -187,7 +187,7 @@ module _ {rows targets bookmark : List ℕ} {marks : List Bool} {chain out barri
         on-dead : Barren s found r → ways (graphOf rows targets) (w .to) (w .left - 1) (v ∷ seenOf chain (w .len)) v ≡ []
         on-dead f =
             let right = rw seen-next at (done .right) in
-            let none = emits-none (w .room) (page found out) _ (sym (ap (λ (q : Page). q .more) right) ∙ f .none) (sym (ap (λ (q : Page). q .count) right) ∙ f .same) in
+            let none = emits-none (w .room) (page (noted found) out) _ (sym (ap (λ (q : Page). q .more) right) ∙ f .none) (sym (ap (λ (q : Page). q .count) right) ∙ f .same) in
             sym (onward-loose s _ _ (f .loose)) ∙ map-none _ _ none
 
         pub enter-settling : Settling barriers₁ trail₁ v (w .left) found r
@@ -211,7 +211,7 @@ module _ {rows targets bookmark : List ℕ} {marks : List Bool} {chain out barri
             record {
               same = ap (λ (m : List Bool). set m v false) (done .same) ∙ put-back marks v true false free;
               whole = ap (λ (c : List ℕ). set c (w .len + 1) 0) (done .whole) ∙ put-back chain (w .len + 1) v 0 (k .blank (w .len + 1) (omega arith));
-              right = rw (ne-eqb v (w .to) ne, ← known, free, side .on n2, map-map) (rw seen-next at (done .right));
+              right = rw (ne-eqb v (w .to) ne, ← known, free, side .on n2, map-map, k .none) (rw seen-next at (done .right));
               barred = rw left at (barred-settle {h = w .left - 1} (k .place) (omega (arith, two)) (omega (arith, k .short)) (k .hold) on-barred on-dead (rw (← left) at settled));
             }
 
@@ -241,18 +241,24 @@ ways-links g t (suc k) seen p h = rw sub-one
 
 module _ {rows targets bookmark : List ℕ} {marks : List Bool} {chain out barriers trail : List ℕ} {w : Walk} {at : ℕ} {found : Found} where
   pub go-start : Ready rows targets bookmark marks chain out barriers trail w at found
-      → Turning rows targets bookmark marks chain out barriers trail w at (getD rows (at + 1) 0) found marks chain out barriers trail (getD rows at 0) found
+      → Turning rows targets bookmark marks chain out barriers trail w at (getD rows (at + 1) 0) (noted found) marks chain out barriers trail (getD rows at 0) (noted found)
   go-start k = record {
-    ready = k;
+    ready = record { graph = k .graph; place = k .place; wide = k .wide; marked = k .marked; long = k .long; blank = k .blank; some = k .some; short = k .short; room = k .room; tight = k .tight; hold = k .hold; trails = k .trails; fits = k .fits; none = refl };
     barred = barred-none (k .hold) (omega (arith, k .fits, k .trails));
     same = refl;
     whole = refl;
     long = refl;
     within = k .graph .rise at (k .place);
     bound = k .graph .ends at (k .place);
-    none = k .none;
+    none = refl;
     right = rw (ways-links (graphOf rows targets) (w .to) (w .left) (seenOf chain (w .len)) at (k .some));
   }
+
+  -- nothing was noted before
+  pub go-noted : {marks′ : List Bool} {chain′ out′ barriers′ trail′ : List ℕ} {found′ : Found} → Ready rows targets bookmark marks chain out barriers trail w at found
+      → GoneThrough rows targets bookmark marks marks′ chain chain′ out out′ barriers barriers′ trail trail′ w at (noted found) found′
+      → GoneThrough rows targets bookmark marks marks′ chain chain′ out out′ barriers barriers′ trail trail′ w at found found′
+  go-noted k g = record { same = g .same; whole = g .whole; right = rw (k .none) (g .right); barred = g .barred }
 
   module _ {end : ℕ} {marks′ : List Bool} {chain′ out′ barriers′ trail′ : List ℕ} {i : ℕ} {found′ : Found} (inv : Turning rows targets bookmark marks chain out barriers trail w at end found marks′ chain′ out′ barriers′ trail′ i found′) where
     pub go-enter : i < end → Ready rows targets bookmark marks′ chain′ out′ barriers′ trail′ w (getD targets i 0) found′
@@ -287,7 +293,8 @@ module _ {rows targets bookmark : List ℕ} {marks : List Bool} {chain out barri
       go-turn long n = record {
         ready = inv .ready;
         barred = barred-trans (inv .barred) (rw (inv .whole) at (e .barred));
-        same = e .same ∙ inv .same; whole = e .whole ∙ inv .whole;
+        same = e .same ∙ inv .same;
+        whole = e .whole ∙ inv .whole;
         long = long ∙ inv .long;
         within = omega arith;
         bound = inv .bound;

@@ -57,6 +57,10 @@ handed chain w s ws = emits (w .room) s (map (recordWith chain (w .len)) ws)
 abbrev pub next : Walk → ℕ → Walk
 next w s = record { to = w .to; tight = s; room = w .room; len = w .len + 1; left = w .left - 1 }
 
+-- what was found so far, and nothing noted
+abbrev pub noted : Found → Found
+noted f = record { count = f .count; more = 0; trail = f .trail }
+
 -- going through a person's links hands over the ways on from him, and leaves the marks and the chain as they were
 pub record GoneThrough (rows targets bookmark : List ℕ) (marks marks′ : List Bool) (chain chain′ out out′ barriers barriers′ trail trail′ : List ℕ) (w : Walk) (at : ℕ) (found found′ : Found) : Type 0 where
   pub same : marks′ ≡ marks

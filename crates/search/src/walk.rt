@@ -91,7 +91,11 @@ pub fn enter(
             left: left,
         },
         at,
-        found,
+        Found {
+            count: found.count,
+            more: 0,
+            trail: found.trail,
+        },
     );
     marks[at] = false;
     chain[len] = 0;
@@ -122,7 +126,11 @@ pub fn go_through(
 {
     let mut i = rows[at] as usize;
     let end = rows[at + 1] as usize;
-    let mut got = found;
+    let mut got = Found {
+        count: found.count,
+        more: 0,
+        trail: found.trail,
+    };
     while i < end {
         got = enter(
             rows,
