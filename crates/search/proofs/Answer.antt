@@ -31,7 +31,7 @@ use Rattle.search.specs.Bookmarks.{restOf, onward, Beginning, Tight}
 use Rattle.search.specs.Barriers.{Hold, trailRoom}
 use Rattle.search.specs.Walks.{seenOf, Marked, Ready, GoneThrough}
 use Rattle.search.specs.declared.Listed.{Listed}
-use Rattle.search.specs.declared.walk.Walk.{Walk}
+use Rattle.search.specs.Places.{Place}
 use Rattle.search.specs.declared.walk.Found.{Found}
 use Rattle.search.proofs.Cases.{same-or-not, lt-or-le}
 use Rattle.search.proofs.Writing.{emits-more}
@@ -93,7 +93,7 @@ module _ {g : Graph} {from to k : ℕ} {bookmark : List ℕ} (few : k ≤ mostHo
       ∙ ap (slice 2 (suc (suc (length (m .rest))))) (m .cells)
       ∙ take-append-seam (m .rest) (replicate (size - suc (suc (length (m .rest)))) 0)
 
-  marks-begin : (w : Walk) → w .to ≡ to → w .len ≡ 1 → Beginning bookmark w
+  marks-begin : (w : Place) → w .to ≡ to → w .len ≡ 1 → Beginning bookmark w
   unfolding recordOf
   marks-begin w t l =
       let some = way-some (m .way) in
@@ -126,7 +126,7 @@ nobody = record { each = λ v l. getD-replicate persons v false false l }
 blank : (i : ℕ) → _≡_ {A = ℕ} (getD (replicate size 0) i 0) 0
 blank i = ⊎-elim (λ l. getD-replicate size i 0 0 l) (λ l. List·getD-eq-default (replicate size 0) 0 {n = i} l) (lt-or-le i size)
 
-abbrev pub started-at : ℕ → ℕ → ℕ → ℕ → Walk
+abbrev pub started-at : ℕ → ℕ → ℕ → ℕ → Place
 started-at to started room hops = record { to = to; tight = started; room = room; len = 1; left = hops }
 
 abbrev pub nothing : Found

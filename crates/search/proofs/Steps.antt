@@ -21,7 +21,7 @@ use Rattle.search.specs.Pages.{Page, page, emit, emits, recordWith, Room
 use Rattle.search.specs.Bookmarks.{restOf, onward, Beginning, Tight, Beside}
 use Rattle.search.specs.Barriers.{Hold, trailRoom, Raising, Barren, Settling, Settled, Barred}
 use Rattle.search.specs.Walks.{seenOf, Marked, Ready, following, through, handed, next, noted, GoneThrough, Entered}
-use Rattle.search.specs.declared.walk.Walk.{Walk}
+use Rattle.search.specs.Places.{Place}
 use Rattle.search.specs.declared.walk.Found.{Found}
 use Rattle.search.proofs.Cases.{same-or-not, lt-or-le}
 use Rattle.search.proofs.Writing.{record-end, record-last, emits-append, emits-more, emits-none, map-none}
@@ -74,7 +74,7 @@ last-hop g t p seen r m =
     rw (q .2, flatMap-append (by t seen (ways g t 0)) (q .0) (t ∷ q .1), eq-eqb t t refl)
     (rw (last-none g t seen (q .0) (λ x i e. let h = rising-below _<_ (q .1) i u in omega arith), last-none g t seen (q .1) (λ x i e. let h = rising-above _<_ t (q .0) (q .1) u x i in omega arith)))
 
-module _ {rows targets bookmark : List ℕ} {marks : List Bool} {chain out barriers trail : List ℕ} {w : Walk} {v : ℕ} {found : Found}
+module _ {rows targets bookmark : List ℕ} {marks : List Bool} {chain out barriers trail : List ℕ} {w : Place} {v : ℕ} {found : Found}
     (k : Ready rows targets bookmark marks chain out barriers trail w v found) where
   here : Barred (graphOf rows targets) (w .to) (seenOf chain (w .len)) (w .left) barriers barriers trail trail (found .trail) (found .trail)
   here = barred-none (k .hold) (omega (arith, k .fits, k .trails))
@@ -95,10 +95,10 @@ module _ {rows targets bookmark : List ℕ} {marks : List Bool} {chain out barri
   enter-bookmark {s} side n2 n0 h = record { same = refl; whole = refl; barred = here; right = rw (eq-eqb v (w .to) h, side .on n2 ([] ∷ []), onward-end s (restOf bookmark (w .len + 1)) n0) }
 
   -- v is To
-  pub end-room : Room out chain w (w .len) found
-  end-room = record { room = k .room; long = k .long; behind = omega arith; short = omega (arith, k .short, k .some); none = k .none }
+  pub end-room : Room out chain (w .room) (w .len) (w .len) found
+  end-room = record { cells = k .room; long = k .long; behind = omega arith; short = omega (arith, k .short, k .some); none = k .none }
 
-  pub enter-end : {out′ : List ℕ} {r : Found} {s : ℕ} → Beside bookmark w v s → s ≡ 0 → v ≡ w .to → Handed out out′ chain w v (w .len) found r
+  pub enter-end : {out′ : List ℕ} {r : Found} {s : ℕ} → Beside bookmark w v s → s ≡ 0 → v ≡ w .to → Handed out out′ chain (w .to) (w .room) (w .len) v (w .len) found r
       → Entered rows targets bookmark marks marks chain chain out out′ barriers barriers trail trail w v found r
   unfolding by emits
   enter-end {s = s} side z e h = record {
@@ -127,11 +127,11 @@ module _ {rows targets bookmark : List ℕ} {marks : List Bool} {chain out barri
       two : 2 ≤ w .left
       two = omega (arith, k .hold .far v (k .place) ne)
 
-      pub last-room : w .left - 1 ≡ 1 → Room out chain w (w .len + 1) found
-      last-room e = record { room = k .room; long = k .long; behind = omega arith; short = omega (arith, k .short, two); none = k .none }
+      pub last-room : w .left - 1 ≡ 1 → Room out chain (w .room) (w .len) (w .len + 1) found
+      last-room e = record { cells = k .room; long = k .long; behind = omega arith; short = omega (arith, k .short, two); none = k .none }
 
       -- the last hop
-      pub enter-last : {out′ : List ℕ} {r : Found} {s : ℕ} → Beside bookmark w v s → s ≡ 0 → w .left - 1 ≡ 1 → Handed out out′ chain w v (w .len + 1) found r
+      pub enter-last : {out′ : List ℕ} {r : Found} {s : ℕ} → Beside bookmark w v s → s ≡ 0 → w .left - 1 ≡ 1 → Handed out out′ chain (w .to) (w .room) (w .len) v (w .len + 1) found r
           → Entered rows targets bookmark marks marks chain chain out out′ barriers barriers trail trail w v found r
       unfolding by emits
       enter-last {s = s} side z e h =
@@ -218,11 +218,11 @@ module _ {rows targets bookmark : List ℕ} {marks : List Bool} {chain out barri
 -- ---- going through the links
 
 -- the ways on through each link from cell i on
-abbrev pub still : List ℕ → List ℕ → List ℕ → List ℕ → Walk → ℕ → ℕ → List (List ℕ)
+abbrev pub still : List ℕ → List ℕ → List ℕ → List ℕ → Place → ℕ → ℕ → List (List ℕ)
 still rows targets bookmark chain w i end = onward (w .tight) (restOf bookmark (w .len)) (flatMap (by (w .to) (seenOf chain (w .len)) (ways (graphOf rows targets) (w .to) (w .left - 1))) (slice i end targets))
 
 -- the loop's invariant: what was handed over, with what is still to come, is all
-pub record Turning (rows targets bookmark : List ℕ) (marks₀ : List Bool) (chain₀ out₀ barriers₀ trail₀ : List ℕ) (w : Walk) (at end : ℕ) (found₀ : Found) (marks : List Bool) (chain out barriers trail : List ℕ) (i : ℕ) (found : Found) : Type 0 where
+pub record Turning (rows targets bookmark : List ℕ) (marks₀ : List Bool) (chain₀ out₀ barriers₀ trail₀ : List ℕ) (w : Place) (at end : ℕ) (found₀ : Found) (marks : List Bool) (chain out barriers trail : List ℕ) (i : ℕ) (found : Found) : Type 0 where
   pub ready : Ready rows targets bookmark marks₀ chain₀ out₀ barriers₀ trail₀ w at found₀
   pub barred : Barred (graphOf rows targets) (w .to) (seenOf chain₀ (w .len)) (w .left) barriers₀ barriers trail₀ trail (found₀ .trail) (found .trail)
   pub same : marks ≡ marks₀
@@ -239,7 +239,7 @@ unfolding ways
 ways-links g t zero seen p h = absurd (omega arith)
 ways-links g t (suc k) seen p h = rw sub-one
 
-module _ {rows targets bookmark : List ℕ} {marks : List Bool} {chain out barriers trail : List ℕ} {w : Walk} {at : ℕ} {found : Found} where
+module _ {rows targets bookmark : List ℕ} {marks : List Bool} {chain out barriers trail : List ℕ} {w : Place} {at : ℕ} {found : Found} where
   pub go-start : Ready rows targets bookmark marks chain out barriers trail w at found
       → Turning rows targets bookmark marks chain out barriers trail w at (getD rows (at + 1) 0) (noted found) marks chain out barriers trail (getD rows at 0) (noted found)
   go-start k = record {

@@ -13,6 +13,7 @@ mod walk;
 use compact::LINKS;
 use compact::PERSONS;
 use compact::STARTS;
+use walk::Ask;
 use walk::Found;
 use walk::Walk;
 
@@ -61,13 +62,12 @@ pub fn list(
         out,
         &mut barriers,
         &mut trail,
-        Walk {
+        Ask {
             to: to,
-            tight: started,
             room: room,
-            len: 1,
-            left: hops,
         },
+        Walk { len: 1, left: hops },
+        started,
         at,
         Found {
             count: 0,
