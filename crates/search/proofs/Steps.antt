@@ -190,7 +190,7 @@ module _ {rows targets bookmark : List ℕ} {marks : List Bool} {chain out barri
             let none = emits-none (w .room) (page (noted found) out) _ (sym (ap (λ (q : Page). q .more) right) ∙ f .none) (sym (ap (λ (q : Page). q .count) right) ∙ f .same) in
             sym (onward-loose s _ _ (f .loose)) ∙ map-none _ _ none
 
-        pub enter-settling : Settling barriers₁ trail₁ v (w .left) found r
+        pub enter-settling : Settling barriers₁ trail₁ v (w .left - 1 + 1) found r
         enter-settling = record {
           raising = record {
             place = k .place;
@@ -203,7 +203,7 @@ module _ {rows targets bookmark : List ℕ} {marks : List Bool} {chain out barri
           rise = on-barred .trailed .rise;
         }
 
-        pub enter-left : {barriers₂ trail₂ : List ℕ} {n : ℕ} → Beside bookmark w v s → (s ≡ 2 → ⊥) → Settled barriers₁ barriers₂ trail₁ trail₂ v s (w .left) found r n
+        pub enter-left : {barriers₂ trail₂ : List ℕ} {n : ℕ} → Beside bookmark w v s → (s ≡ 2 → ⊥) → Settled barriers₁ barriers₂ trail₁ trail₂ v s (w .left - 1 + 1) found r n
             → Entered rows targets bookmark marks (set marks′ v false) chain (set chain′ (w .len + 1) 0) out out′ barriers barriers₂ trail trail₂ w v found (record { count = r .count; more = r .more; trail = n })
         unfolding by recordWith
         enter-left {barriers₂} {trail₂} {n} side n2 settled =
@@ -212,7 +212,7 @@ module _ {rows targets bookmark : List ℕ} {marks : List Bool} {chain out barri
               same = ap (λ (m : List Bool). set m v false) (done .same) ∙ put-back marks v true false free;
               whole = ap (λ (c : List ℕ). set c (w .len + 1) 0) (done .whole) ∙ put-back chain (w .len + 1) v 0 (k .blank (w .len + 1) (omega arith));
               right = rw (ne-eqb v (w .to) ne, ← known, free, side .on n2, map-map, k .none) (rw seen-next at (done .right));
-              barred = rw left at (barred-settle {h = w .left - 1} (k .place) (omega (arith, two)) (omega (arith, k .short)) (k .hold) on-barred on-dead (rw (← left) at settled));
+              barred = rw left at (barred-settle {h = w .left - 1} (k .place) (omega (arith, two)) (omega (arith, k .short)) (k .hold) on-barred on-dead (rw (add-one (w .left - 1)) at settled));
             }
 
 -- ---- going through the links

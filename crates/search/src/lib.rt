@@ -62,10 +62,7 @@ pub fn list(
         out,
         &mut barriers,
         &mut trail,
-        Ask {
-            to: to,
-            room: room,
-        },
+        Ask { to: to, room: room },
         Walk { len: 1, left: hops },
         started,
         at,

@@ -103,7 +103,7 @@ pub fn enter(
     );
     marks[at] = false;
     chain[len] = 0;
-    let height = crate::barriers::settle(barriers, trail, at, side, w.left, found, got);
+    let height = crate::barriers::settle(barriers, trail, at, side, left + 1, found, got);
     Found {
         count: got.count,
         more: got.more,
