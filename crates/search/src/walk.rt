@@ -31,20 +31,20 @@ pub struct Found {
     pub trail: usize,
 }
 
-// Tries v as the next person of the chain. `tight` is 0 once the chain has left the bookmark, and in a fresh start.
+// Tries v as the next person of the chain. What every link asks for stands first, and goes in registers. `tight` is 0 once the chain has left the bookmark, and in a fresh start.
 pub fn enter(
+    v: u32,
     rows: &[u16; STARTS],
     targets: &[u16; LINKS],
-    bookmark: &[u32],
     marks: &mut [bool; PERSONS],
-    chain: &mut [u32; RECORD],
-    out: &mut [u32],
     barriers: &mut [u8; PERSONS],
+    chain: &mut [u32; RECORD],
     trail: &mut [u16; TRAIL],
+    bookmark: &[u32],
+    out: &mut [u32],
     ask: Ask,
     w: Walk,
     tight: u32,
-    v: u32,
     found: Found,
 ) -> Found
     requires { ⌜ Ready (now rows) (now targets) (now bookmark) (now marks) (now chain) (now out) (now barriers) (now trail) (placeOf ask w tight) v found ⌝ }
@@ -77,14 +77,15 @@ pub fn enter(
     chain[len] = v;
     marks[at] = true;
     let got = go_through(
+        at,
         rows,
         targets,
-        bookmark,
         marks,
-        chain,
-        out,
         barriers,
+        chain,
         trail,
+        bookmark,
+        out,
         Ask {
             to: ask.to,
             room: ask.room,
@@ -94,7 +95,6 @@ pub fn enter(
             left: left,
         },
         side,
-        at,
         Found {
             count: found.count,
             more: 0,
@@ -113,18 +113,18 @@ pub fn enter(
 
 // Tries each link of the person at, who stands last in the chain, until one chain more is seen than there is room for.
 pub fn go_through(
+    at: usize,
     rows: &[u16; STARTS],
     targets: &[u16; LINKS],
-    bookmark: &[u32],
     marks: &mut [bool; PERSONS],
-    chain: &mut [u32; RECORD],
-    out: &mut [u32],
     barriers: &mut [u8; PERSONS],
+    chain: &mut [u32; RECORD],
     trail: &mut [u16; TRAIL],
+    bookmark: &[u32],
+    out: &mut [u32],
     ask: Ask,
     w: Walk,
     tight: u32,
-    at: usize,
     found: Found,
 ) -> Found
     requires { ⌜ Ready (now rows) (now targets) (now bookmark) (now marks) (now chain) (now out) (now barriers) (now trail) (placeOf ask w tight) at found ⌝ }
@@ -139,18 +139,18 @@ pub fn go_through(
     };
     while i < end {
         got = enter(
+            targets[i] as u32,
             rows,
             targets,
-            bookmark,
             marks,
-            chain,
-            out,
             barriers,
+            chain,
             trail,
+            bookmark,
+            out,
             ask,
             w,
             tight,
-            targets[i] as u32,
             got,
         );
         if got.more != 0 {
