@@ -2,13 +2,14 @@
 ghost use Prim.Native.Nat.{_<_};
 ghost use Rattle.search.specs.Places.{placeOf};
 ghost use Rattle.search.specs.Walks.{Ready, Entered, GoneThrough};
+use crate::HOPS;
 use crate::RECORD;
 use compact::LINKS;
 use compact::PERSONS;
 use compact::STARTS;
 
 // Each entry that stands on the trail has raised its person's barrier, and none passes the hops: never too few.
-pub const TRAIL: usize = 8192;
+pub const TRAIL: usize = HOPS * PERSONS;
 
 // What stays the same all through a search: whom the chains lead to, and how many records there is room for.
 // Numbers go down in small structs of two, and no bool among them: such a struct goes in registers.

@@ -4,7 +4,6 @@ use borrow.Author.Needs.{needs}
 use native.Mathlib.Omega.{arith}
 use borrow.Author.Tests.{eqb-true}
 use Prim.Native.Nat.{_*_, _+_, _-_}
-use lib.ListN.{length-set}
 use Rattle.search.specs.Places.{placeOf}
 use Rattle.search.proofs.Steps.{Turning, enter-skipped, enter-bookmark, end-room, enter-end, enter-marked, enter-barred, last-room, enter-last, enter-ready, enter-settling, enter-left, go-start, go-noted, go-enter, go-turn, go-stop, go-end}
 use Prim.Native.Nat.{ℕ, _<_}
