@@ -1,0 +1,5 @@
+-- Laws of this room: one file for each of its steps, from a cell that is copied to the answer.
+pub mod Cases
+pub mod Writing
+pub mod Steps
+pub mod Shelving
