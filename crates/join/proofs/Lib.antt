@@ -3,3 +3,6 @@ pub mod Cases
 pub mod Writing
 pub mod Steps
 pub mod Shelving
+pub mod Meeting
+pub mod Recording
+pub mod Standing
