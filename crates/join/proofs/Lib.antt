@@ -6,3 +6,6 @@ pub mod Shelving
 pub mod Meeting
 pub mod Recording
 pub mod Standing
+pub mod Face
+pub mod Public
+pub mod OneResult

@@ -59,7 +59,7 @@ alone-turn {to} {ending} {p} k lt = record {
 }
 
 pub alone-end : {to : ℕ} {ending : List ℕ} {p : ℕ} → Alone to ending p → suc persons ≤ p → Ended ending to
-alone-end k h = record { low = k .low; high = λ q i j. k .high q i (omega arith) }
+alone-end k h = record { long = k .long; low = k .low; high = λ q i j. k .high q i (omega arith) }
 
 -- ---- `begin`
 

@@ -32,7 +32,7 @@ use Rattle.join.proofs.Meeting.{flatMap-same, Marked, nobody, marked-mo
 
 -- ---- (To) alone and its index
 
-module _ {ending : List ℕ} {t : ℕ} (e : Ended ending t) (long : length ending ≡ suc persons) (place : t < persons) where
+module _ {ending : List ℕ} {t : ℕ} (e : Ended ending t) (place : t < persons) where
   pub rights-ending : (p : ℕ) → p < persons → rightsOf (set blank 1 t) ending 0 p ≡ atEnd t p
   unfolding restsOf
   rights-ending p l =
@@ -50,7 +50,7 @@ module _ {ending : List ℕ} {t : ℕ} (e : Ended ending t) (long : length endin
 
   pub indexed-ending : Indexed (set blank 1 t) ending 0
   indexed-ending = record {
-    within = omega (arith, long);
+    within = omega (arith, e .long);
     rise = λ p l. let a : placeOf 0 p ≡ p = omega arith in rw a (⊎-elim (λ i. omega (arith, e .high p i (omega arith), e .high (p + 1) (omega arith) (omega arith))) (λ i. omega (arith, e .low p i)) (lt-or-le t p));
     there = λ p l. let a : placeOf 0 p ≡ p = omega arith in rw a (omega (arith, one (p + 1) (omega arith)));
     people = λ p l c h. ⊎-elim (λ i. rw i place) (λ n. rw (getD-set-other blank 1 c t 0 n) (zeros c)) (same-or-not c 1);

@@ -34,15 +34,11 @@ abbrev pub cellsFor : Fault → List (List ℕ) → List ℕ → List ℕ
 cellsFor sound chains cells = written recordSize chains cells
 cellsFor (fault number place) chains cells = cells
 
--- the answer, all half chains in the working cells, and the first chains in the output, where this is the first fault
-pub record Answered (first : Fault) (halfChains chains : List (List ℕ)) (working working′ out out′ : List ℕ) (answer : code.Joined) : Type 0 where
-  pub answers : answerSaid answer ≡ answerFor first (length (firstOnes chains out)) (allFit chains out)
-  pub shelf : working′ ≡ cellsFor first halfChains working
-  pub cells : out′ ≡ cellsFor first (firstOnes chains out) out
-
--- join: of a file and a question
-abbrev pub Joins : List ℕ → Question → List ℕ → List ℕ → List ℕ → List ℕ → code.Joined → Type 0
-Joins file q working working′ out out′ answer = Answered (joinFault file q working out) (halvesFor file q) (chainsFor file q) working working′ out out′ answer
+-- join: the answer, all half chains in the working cells, and the first chains in the output
+pub record Joins (file : List ℕ) (q : Question) (working working′ out out′ : List ℕ) (answer : code.Joined) : Type 0 where
+  pub answers : answerSaid answer ≡ answerFor (joinFault file q working out) (length (firstOnes (chainsFor file q) out)) (allFit (chainsFor file q) out)
+  pub shelf : working′ ≡ cellsFor (joinFault file q working out) (halvesFor file q) working
+  pub cells : out′ ≡ cellsFor (joinFault file q working out) (firstOnes (chainsFor file q) out) out
 
 -- the same of a compact graph, once file and question have passed
 pub record Passed (rows targets : List ℕ) (from to hops : ℕ) : Type 0 where
@@ -56,6 +52,12 @@ pub record Passed (rows targets : List ℕ) (from to hops : ℕ) : Type 0 where
 abbrev pub halvesIn : List ℕ → List ℕ → ℕ → ℕ → ℕ → List (List ℕ)
 halvesIn rows targets from to hops = halves (graphOf rows targets) persons from to hops
 
+-- these half chains and these chains, where 18 is all that is left to refuse
+pub record Answered (halfChains chains : List (List ℕ)) (working working′ out out′ : List ℕ) (answer : code.Joined) : Type 0 where
+  pub answers : answerSaid answer ≡ answerFor (halvesFault recordSize (length working) halfChains) (length (firstOnes chains out)) (allFit chains out)
+  pub shelf : working′ ≡ cellsFor (halvesFault recordSize (length working) halfChains) halfChains working
+  pub cells : out′ ≡ cellsFor (halvesFault recordSize (length working) halfChains) (firstOnes chains out) out
+
 abbrev pub JoinsIn : List ℕ → List ℕ → ℕ → ℕ → ℕ → List ℕ → List ℕ → List ℕ → List ℕ → code.Joined → Type 0
 JoinsIn rows targets from to hops working working′ out out′ answer =
-    Answered (halvesFault recordSize (length working) (halvesIn rows targets from to hops)) (halvesIn rows targets from to hops) (byHops (graphOf rows targets) from to hops) working working′ out out′ answer
+    Answered (halvesIn rows targets from to hops) (byHops (graphOf rows targets) from to hops) working working′ out out′ answer

@@ -19,6 +19,7 @@ pub record Lone (ending : List ℕ) (to : ℕ) : Type 0 where
   pub place : to < persons
 
 pub record Ended (ending : List ℕ) (to : ℕ) : Type 0 where
+  pub long : length ending ≡ suc persons
   pub low : (p : ℕ) → p ≤ to → getD ending p 0 ≡ 0
   pub high : (p : ℕ) → to < p → p < suc persons → getD ending p 0 ≡ 1
 
