@@ -4,15 +4,14 @@ use mathlib.Core.Bool.{Bool, true, false}
 use mathlib.Core.List.{List, [], _∷_, _++_}
 use Prim.Native.Nat.{ℕ}
 use lib.ListN.{length, drop}
-use Rattle.linkfile.specs.Format.{personCount}
 use Rattle.linkfile.specs.Verdict.{Fault, sound, fault, unless}
 use Rattle.ways.specs.Listing.{listing}
 use Rattle.ways.specs.Portions.{portion, endedAfter}
 use Rattle.ways.specs.Records.{chainOf, written, isRecordIn}
-use Rattle.ways.specs.Halves.{halves, halvesFit}
 use Rattle.question.specs.declared.Question.{Question}
 use Rattle.question.specs.Asked.{askedFault}
 use Rattle.question.specs.Admission.{next}
+use Rattle.join.specs.Lists.{halvesFor, halvesFault}
 use Rattle.cases.specs.SixPersons.{six, ask, Q}
 
 -- "A chain record has ten 32-bit cells"
@@ -34,19 +33,12 @@ abbrev pub startFault : ℕ → List (List ℕ) → Start → Fault
 startFault size chains fresh = sound
 startFault size chains (after bookmark) = unless (isRecordIn size chains bookmark) 17 0 sound
 
--- 18: working cells hold fewer records than there are half chains
-abbrev pub halvesFault : ℕ → ℕ → List (List ℕ) → Fault
-halvesFault size cells halfChains = unless (halvesFit size cells halfChains) 18 0 sound
-
--- what a file and a question give: the listing, a portion of it, the half chains
+-- what a file and a question give: the listing, a portion of it
 abbrev pub listingFor : List ℕ → Question → List (List ℕ)
 listingFor file q = listing (next file q) (q .from) (q .to) (q .hops)
 
 abbrev pub portionFor : List ℕ → Question → ℕ → Start → List (List ℕ)
 portionFor file q room start = portion room (startsAfter start) (listingFor file q)
-
-abbrev pub halvesFor : List ℕ → Question → List (List ℕ)
-halvesFor file q = halves (next file q) (personCount file) (q .from) (q .to) (q .hops)
 
 -- written to lent cells, whichever they are, the chains fill these from cell 0, and the other cells are unchanged
 abbrev pub Fill : List (List ℕ) → List ℕ → Type 0

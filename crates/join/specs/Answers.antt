@@ -11,6 +11,7 @@ use Rattle.ways.specs.Halves.{halves}
 use Rattle.ways.specs.ByHops.{byHops}
 use Rattle.compact.specs.Compact.{persons, graphOf, Compact}
 use Rattle.question.specs.declared.Question.{Question}
+use Rattle.question.specs.Asked.{mostHops}
 use Rattle.join.specs.declared.Joined as code
 use Rattle.join.specs.Lists.{recordSize, halvesFor, chainsFor, halvesFault, joinFault, firstOnes, allFit}
 
@@ -47,7 +48,7 @@ pub record Passed (rows targets : List ℕ) (from to hops : ℕ) : Type 0 where
   pub target : to < persons
   pub differ : from ≢ to
   pub some : 1 ≤ hops
-  pub few : hops ≤ 8
+  pub few : hops ≤ mostHops
 
 abbrev pub halvesIn : List ℕ → List ℕ → ℕ → ℕ → ℕ → List (List ℕ)
 halvesIn rows targets from to hops = halves (graphOf rows targets) persons from to hops

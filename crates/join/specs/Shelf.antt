@@ -7,6 +7,7 @@ use lib.ListN.{length, getD, set, replicate}
 use Rattle.ways.specs.Graph.{Graph}
 use Rattle.ways.specs.Halves.{personsBelow}
 use Rattle.ways.specs.Join.{leftHops, rightHops}
+use Rattle.question.specs.Asked.{mostHops}
 use Rattle.compact.specs.Compact.{persons, graphOf, Compact}
 use Rattle.join.specs.Pages.{size, Page, page, emits, recordWith}
 use Rattle.join.specs.Walks.{rightsOf, Indexed, following, taking}
@@ -80,7 +81,7 @@ pub record Gather (rows targets halves index : List ℕ) (marks : List Bool) (ou
   pub indexed : (rest : ℕ) → rest ≤ hops / 2 → Indexed halves index rest
   pub wide : length marks ≡ persons
   pub place : from < persons
-  pub few : hops ≤ 8
+  pub few : hops ≤ mostHops
 
 pub record Gathered (rows targets halves index : List ℕ) (marks marks′ : List Bool) (out out′ : List ℕ) (from hops : ℕ) (found : Found) : Type 0 where
   pub same : marks′ ≡ marks

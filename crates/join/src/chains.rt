@@ -30,7 +30,7 @@ pub fn gather(
         length += 1;
         let left = (length + 1) / 2;
         let w = Walk {
-            writes: 1,
+            writes: crate::halves::WRITE,
             room: room,
             rest: length - left,
             len: 1,

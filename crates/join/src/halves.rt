@@ -7,6 +7,11 @@ use compact::LINKS;
 use compact::PERSONS;
 use compact::STARTS;
 
+// What the half chains are gone through for: to be counted, or to be written.
+pub const COUNT: usize = 0;
+
+pub const WRITE: usize = 1;
+
 // The index of the one half chain without a hop: (To) alone.
 pub fn lone(ending: &mut [usize; STARTS], to: usize)
     requires { ⌜ Lone (now ending) to ⌝ }

@@ -19,8 +19,11 @@ use question::Question;
 // A chain record has ten cells: the hops, the persons, zeros.
 pub const RECORD: usize = 10;
 
-// The index of the half chains has a place for each number of hops, 0 to half of eight, and each first person, and an end.
-pub const INDEX: usize = 5121;
+// A chain has at most eight hops, and a half chain at most half of them.
+pub const HOPS: usize = 8;
+
+// The index of the half chains has a place for each number of hops and each first person, and an end.
+pub const INDEX: usize = (HOPS / 2 + 1) * PERSONS + 1;
 
 // What a join answers.
 pub enum Joined {
@@ -59,7 +62,7 @@ fn join_graph(
         &mut marks,
         &mut index,
         working,
-        0,
+        halves::COUNT,
         places,
     );
     if counted.more != 0 {
@@ -76,7 +79,7 @@ fn join_graph(
         &mut marks,
         &mut index,
         working,
-        1,
+        halves::WRITE,
         places,
     );
     let found = chains::gather(
