@@ -1,6 +1,6 @@
 -- From the portion's promise to the held listing's: which case the answer tells, and where the last record stands.
 use mathlib.Core.Path.{_≡_, refl, sym, ap, subst, _∙_}
-use mathlib.Core.Bool.{Bool}
+use mathlib.Core.Bool.{Bool, true, false}
 use mathlib.Core.List.{List, [], _∷_, _++_, append-assoc, append-nil, List·Memᴰ·head, List·Memᴰ·tail}
 use Prim.Native.Nat.{ℕ, suc, _+_, _-_, _*_, _≤_}
 use native.Mathlib.Omega.{arith}
@@ -10,7 +10,7 @@ use lib.Seq.{take-at, drop-at, drop-drop}
 use lib.Dec.{leb}
 use Rattle.linkfile.specs.Verdict.{Fault, sound, fault, unless, firstOf}
 use Rattle.ways.specs.Graph.{_∈_}
-use Rattle.ways.specs.Portions.{after, lastOr}
+use Rattle.ways.specs.Portions.{after, portion, lastOr}
 use Rattle.ways.specs.Records.{recordOf, Fits, cellsOf, roomOf, written}
 use Rattle.ways.proofs.Members.{take-in}
 use Rattle.ways.proofs.After.{after-from}
@@ -36,26 +36,24 @@ last-record size c (d ∷ chains) rest f =
     rw (more, ← drop-drop (length chains * size) size (recordOf size c ++ cellsOf size (d ∷ chains) ++ rest), append-assoc, drop-at (recordOf size c) (cellsOf size (d ∷ chains) ++ rest) size here)
     (last-record size d chains rest (λ e m. f e (List·Memᴰ·tail m)))
 
-module _ (file : List ℕ) (q : Question) (start : Start) (out : List ℕ) where
-  -- a portion that is not refused has a file and a question that pass
-  pub sound-asked : portionFault file q start out ≡ sound → askedFault file q ≡ sound
+module _ (file : List ℕ) (q : Question) where
+  -- a portion that is not refused has a file, a question and a start that pass
+  pub sound-asked : (start : Start) (out : List ℕ) → portionFault file q start out ≡ sound → (askedFault file q ≡ sound) × (startFault (listingFor file q) start ≡ sound)
   unfolding portionFault
-  sound-asked e = go (askedFault file q) (unless (leb recordSize (length out)) 16 0 (startFault (listingFor file q) start)) e
+  sound-asked start out e = go (askedFault file q) (leb recordSize (length out)) (startFault (listingFor file q) start) e
     where
-      go : (a b : Fault) → firstOf a b ≡ sound → a ≡ sound
-      go sound b e = refl
-      go (fault number place) b e = let z : _≡_ {A = ℕ} 0 1 = cc in absurd (omega arith)
+      go : (a : Fault) (t : Bool) (b : Fault) → firstOf a (unless t 16 0 b) ≡ sound → (a ≡ sound) × (b ≡ sound)
+      go sound true b e = (refl, e)
+      go sound false b e = let z : _≡_ {A = ℕ} 0 1 = cc in absurd (omega arith)
+      go (fault number place) t b e = let z : _≡_ {A = ℕ} 0 1 = cc in absurd (omega arith)
 
-  -- its chains are chains of the listing, and have records
-  pub portion-listed : (c : List ℕ) → c ∈ portionFor file q start out → c ∈ listingFor file q
-  portion-listed c m = after-from (startsAfter start) (listingFor file q) (take-in (roomOf recordSize (length out)) (after (startsAfter start) (listingFor file q)) m) .0
+  module _ (r : ℕ) (b : List ℕ) where
+    -- its chains are chains of the listing, and have records
+    pub portion-listed : {c : List ℕ} → c ∈ portion r b (listingFor file q) → c ∈ listingFor file q
+    portion-listed m = after-from b (listingFor file q) (take-in r (after b (listingFor file q)) m) .0
 
-  pub portion-fits : askedFault file q ≡ sound → (c : List ℕ) → c ∈ portionFor file q start out → Fits recordSize c
-  portion-fits e c m = listing-fits (next file q) (q .from) (q .to) (q .hops) recordSize (omega (arith, asked-proper file q e .most)) c (portion-listed c m)
-
-  -- and there is room for them
-  pub portion-room : length (portionFor file q start out) * recordSize ≤ length out
-  portion-room = omega (arith, length-take (roomOf recordSize (length out)) (after (startsAfter start) (listingFor file q)), room-within recordSize (length out))
+    pub portion-fits : askedFault file q ≡ sound → (c : List ℕ) → c ∈ portion r b (listingFor file q) → Fits recordSize c
+    portion-fits e c m = listing-fits (next file q) (q .from) (q .to) (q .hops) recordSize (omega (arith, asked-proper file q e .most)) c (portion-listed m)
 
 -- what the answer tells of the portion
 module _ {file : List ℕ} {q : Question} {start : Start} {out out′ : List ℕ} {answer : code.Answer} (p : Portioned file q start out out′ answer) where
@@ -66,6 +64,13 @@ module _ {file : List ℕ} {q : Question} {start : Start} {out out′ : List ℕ
         go : (f : Fault) → listed count ended ≡ answerFor f (length (portionFor file q start out)) (endedFor file q start out) → f ≡ sound
         go sound e = refl
         go (fault number place) e = let z : _≡_ {A = ℕ} 0 1 = cc in absurd (omega arith)
+
+    fits : (c : List ℕ) → c ∈ portionFor file q start out → Fits recordSize c
+    fits = portion-fits file q (roomOf recordSize (length out)) (startsAfter start) (sound-asked file q start out listed-sound .0)
+
+    -- there is room for the chains
+    room : length (portionFor file q start out) * recordSize ≤ length out
+    room = omega (arith, length-take (roomOf recordSize (length out)) (after (startsAfter start) (listingFor file q)), room-within recordSize (length out))
 
     told : listed count ended ≡ listed (length (portionFor file q start out)) (endedFor file q start out)
     told = sym said ∙ rw listed-sound at (p .answers)
@@ -83,14 +88,14 @@ module _ {file : List ℕ} {q : Question} {start : Start} {out out′ : List ℕ
     pub last-within : (count ≡ 0 → ⊥) → (count - 1) * recordSize + recordSize ≤ length out′
     last-within n =
         let e = listed-count in
-        let l : length out′ ≡ length out = ap length listed-cells ∙ length-written recordSize (portionFor file q start out) out (portion-fits file q start out (sound-asked file q start out listed-sound)) (portion-room file q start out) in
-        omega (arith, portion-room file q start out)
+        let l : length out′ ≡ length out = ap length listed-cells ∙ length-written recordSize (portionFor file q start out) out fits room in
+        omega (arith, room)
 
     pub last-is : (c : List ℕ) (chains : List (List ℕ)) → portionFor file q start out ≡ c ∷ chains → take recordSize (drop ((count - 1) * recordSize) out′) ≡ recordOf recordSize (lastOr c chains)
     unfolding written
     last-is c chains e =
         let n : count - 1 ≡ length chains = omega (arith, listed-count, ap length e) in
-        rw (n, listed-cells, e) (last-record recordSize c chains (drop (length (c ∷ chains) * recordSize) out) (λ d m. portion-fits file q start out (sound-asked file q start out listed-sound) d (subst (λ l. d ∈ l) (sym e) m)))
+        rw (n, listed-cells, e) (last-record recordSize c chains (drop (length (c ∷ chains) * recordSize) out) (λ d m. fits d (subst (λ l. d ∈ l) (sym e) m)))
 
   pub refused-fault : {number place : ℕ} → answerSaid answer ≡ refused number place → portionFault file q start out ≡ fault number place
   refused-fault {number} {place} said = go (portionFault file q start out) (sym said ∙ p .answers)

@@ -1,9 +1,12 @@
 -- Calls of one held listing, one after another, on one file. Definitions only.
+use mathlib.Core.Path.{_≡_}
+use mathlib.Core.Bool.{true}
 use mathlib.Core.List.{List, [], _∷_, _++_}
 use Prim.Native.Nat.{ℕ, _*_, _≤_}
-use lib.ListN.{length, take}
+use lib.ListN.{length, take, drop}
+use Rattle.ways.specs.Portions.{total}
 use Rattle.ways.specs.Records.{roomOf}
-use Rattle.portion.specs.Listing.{recordSize}
+use Rattle.portion.specs.Listing.{recordSize, listingFor}
 use Rattle.portion.specs.Answers.{Answer, listed, refused, answerSaid}
 use Rattle.portion.specs.declared.Answer as code
 use Rattle.held.specs.declared.Held.{Held}
@@ -39,7 +42,16 @@ abbrev pub roomsOf : List Call → List ℕ
 roomsOf [] = []
 roomsOf (call ∷ calls) = roomOf recordSize (length (call .lent)) ∷ roomsOf calls
 
+-- what is left of the listing after those calls
+abbrev pub toCome : List ℕ → Held → List Call → List (List ℕ)
+toCome file held calls = drop (total (roomsOf calls)) (listingFor file (held .question))
+
 -- every output has room for a record
 abbrev pub Roomy : List Call → Type 0
 Roomy [] = Unit {0}
 Roomy (call ∷ calls) = (recordSize ≤ length (call .lent)) × Roomy calls
+
+-- every call answers 0 chains and ended, and changes no cell
+abbrev pub Quiet : List Call → Type 0
+Quiet [] = Unit {0}
+Quiet (call ∷ calls) = (answerSaid (call .answer) ≡ listed 0 true) × (call .back ≡ call .lent) × Quiet calls
