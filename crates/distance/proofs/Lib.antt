@@ -1,3 +1,3 @@
 pub mod Stepping
 pub mod Settled
-pub mod Single
+pub mod OneResult

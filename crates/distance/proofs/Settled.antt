@@ -1,8 +1,8 @@
 -- The rounds of the distance table: after the round of h hops everybody of at most h has his number, and the others are unknown.
 use mathlib.Core.Path.{_≡_, refl, sym, ap, subst, _∙_}
-use mathlib.Core.Logic.{_≢_, _⊎_, inl, inr}
-use mathlib.Core.Bool.{Bool, true, false, _&&_, cond, false≢true}
-use mathlib.Core.List.{List, [], _∷_, List·Memᴰ·head, List·Memᴰ·tail, List·Memᴰ·not-nil}
+use mathlib.Core.Logic.{_≢_}
+use mathlib.Core.Bool.{Bool, true, false, cond, false≢true}
+use mathlib.Core.List.{List, [], _∷_, List·Memᴰ·head, List·Memᴰ·tail}
 use Prim.Native.Nat.{ℕ, zero, suc, _+_, _-_, _≤_, _<_}
 use lib.ListN.{length, getD, set, replicate, length-set, length-replicate, getD-replicate}
 use lib.Seq.{getD-set-same, getD-set-other}
@@ -10,15 +10,15 @@ use lib.Dec.{eqb, leb}
 use native.Mathlib.Numerals.{add-one}
 use native.Mathlib.Decide.{ℕ-discrete, decLe}
 use native.Mathlib.Omega.{arith}
-use borrow.Author.Tests.{eqb-true, eqb-false, eq-eqb, ne-eqb, le-leb, lt-leb}
-use Rattle.ways.specs.Graph.{Graph, _∈_}
+use borrow.Author.Tests.{eqb-true, eq-eqb, ne-eqb, le-leb, lt-leb}
+use Rattle.ways.specs.Graph.{_∈_}
 use Rattle.ways.specs.Fewest.{fewest}
 use Rattle.ways.proofs.Reach.{round-zero}
 use Rattle.ways.proofs.Fewest.{fewest-end, fewest-cap, fewest-in, fewest-suc, fewest-next}
 use Rattle.compact.specs.Compact.{persons, graphOf, Compact}
 use Rattle.compact.proofs.Rows.{row-people}
 use Rattle.distance.specs.Table.{Table, anybody, stepped, Stepped}
-use Rattle.distance.specs.Inside.{Readable, Rounding}
+use Rattle.distance.specs.Inside.{Readable}
 
 -- the number that the round of h hops shows for a person of d: unknown is k+1
 abbrev pub shown : ℕ → ℕ → ℕ → ℕ

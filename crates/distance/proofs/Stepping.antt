@@ -1,9 +1,8 @@
 -- A round, person by person: the cells that it has set do not disturb it.
-use mathlib.Core.Path.{_≡_, refl, sym, ap, subst, _∙_}
-use mathlib.Core.Logic.{_⊎_, inl, inr}
+use mathlib.Core.Path.{_≡_, refl, sym, ap, _∙_}
 use mathlib.Core.Bool.{Bool, true, false, _&&_, cond, false≢true}
 use mathlib.Core.List.{List, [], _∷_}
-use Prim.Native.Nat.{ℕ, suc, _+_, _≤_, _<_}
+use Prim.Native.Nat.{ℕ, _+_, _≤_, _<_}
 use lib.ListN.{length, getD, set, length-set}
 use lib.Seq.{slice, slice-cons, slice-empty, getD-set-same, getD-set-other}
 use lib.Dec.{eqb}
@@ -11,7 +10,7 @@ use native.Mathlib.Numerals.{add-one}
 use native.Mathlib.Decide.{ℕ-discrete, decLt}
 use native.Mathlib.Omega.{arith}
 use borrow.Author.Tests.{eqb-true, eq-eqb, ne-eqb}
-use Rattle.compact.specs.Compact.{persons, graphOf, Compact}
+use Rattle.compact.specs.Compact.{persons, graphOf}
 use Rattle.distance.specs.Table.{anybody, stepped, Stepped}
 use Rattle.distance.specs.Inside.{Looks, Rounding}
 

@@ -1,5 +1,5 @@
 -- `counted` meets its contract: the table's cell is the fewest hops in the compact graph, which reads as `next`.
-use mathlib.Core.Path.{_≡_, ap, fun-ext, _∙_}
+use mathlib.Core.Path.{ap, fun-ext, _∙_}
 use native.Mathlib.Omega.{arith}
 use Rattle.ways.specs.Graph.{Graph}
 use Rattle.ways.specs.Fewest.{fewest}

@@ -1,5 +1,5 @@
 -- `fewest` meets its contract: the file's first fault decides, then the question's, then the hops are counted.
-use mathlib.Core.Path.{_≡_, sym, ap, _∙_}
+use mathlib.Core.Path.{sym, ap, _∙_}
 use Rattle.linkfile.specs.Verdict.{faultSaid}
 use Rattle.linkfile.specs.Answers.{verdictSaid}
 use Rattle.linkfile.proofs.Passed.{refused-verdict, passed-verdict}

@@ -1,6 +1,6 @@
 -- `distances` meets its contract. The loop's invariant: the rounds so far have settled everybody of at most so many hops.
 use mathlib.Core.Path.{sym}
-use Prim.Native.Nat.{_+_, _-_, _≤_}
+use Prim.Native.Nat.{_-_, _≤_}
 use native.Mathlib.Omega.{arith}
 use borrow.Author.Tests.{not-true}
 use Rattle.distance.proofs.Settled.{Rounds, rounds-start, rounds-next, rounds-calm, rounds-end}

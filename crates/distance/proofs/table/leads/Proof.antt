@@ -1,5 +1,5 @@
 -- `leads` meets its contract. The loop's invariant: what is still to be looked at decides.
-use mathlib.Core.Path.{_≡_, refl}
+use mathlib.Core.Path.{refl}
 use Prim.Native.Nat.{_+_, _-_}
 use native.Mathlib.Omega.{arith}
 use Rattle.distance.proofs.Stepping.{Passing, row-ends, passing-starts, passing-person, passing-finds, passing-on, passing-ends}
