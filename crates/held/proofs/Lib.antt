@@ -1,0 +1,4 @@
+pub mod Lies
+pub mod Copied
+pub mod Keeping
+pub mod Onward
