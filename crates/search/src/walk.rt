@@ -1,5 +1,4 @@
 // The cycle: entering a person, and going through that person's links.
-ghost use Prim.Native.Nat.{_<_};
 ghost use Rattle.search.specs.Places.{placeOf};
 ghost use Rattle.search.specs.Walks.{Ready, Entered, GoneThrough};
 use crate::HOPS;
@@ -32,7 +31,8 @@ pub struct Found {
     pub trail: usize,
 }
 
-// Tries v as the next person of the chain. What every link asks for stands first, and goes in registers. `tight` is 0 once the chain has left the bookmark, and in a fresh start.
+// Tries v as the next person of the chain. What every link asks for stands first, so that it goes in registers.
+// `tight` is 0 once the chain has left the bookmark, and in a fresh start.
 pub fn enter(
     v: u32,
     rows: &[u16; STARTS],
