@@ -35,16 +35,16 @@ pub fn moved(held: Held, file: &[u8], out: &mut [u32]) -> Outcome
     let Answer::Listed { count, ended: _ } = answer else {
         return Outcome { held, answer };
     };
-    if count == 0 {
-        return Outcome { held, answer };
+    if count > 0 {
+        let record = record_at(out, (count - 1) * RECORD);
+        let next = Held {
+            question,
+            started: 1,
+            record,
+        };
+        return Outcome { held: next, answer };
     }
-    let record = record_at(out, (count - 1) * RECORD);
-    let next = Held {
-        question,
-        started: 1,
-        record,
-    };
-    Outcome { held: next, answer }
+    Outcome { held, answer }
 }
 
 // The record that stands in the cells from `at` on.
