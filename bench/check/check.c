@@ -13,9 +13,10 @@ enum { TURNS = 200, CALLS_A_TURN = 20 };
 
 typedef uint64_t check_function(const uint8_t *file, size_t length);
 
+/* The time this process has had, so that other work on the machine counts less. */
 static double now(void) {
   struct timespec time;
-  clock_gettime(CLOCK_MONOTONIC, &time);
+  clock_gettime(CLOCK_PROCESS_CPUTIME_ID, &time);
   return (double)time.tv_sec * 1e6 + (double)time.tv_nsec / 1e3;
 }
 

@@ -1,11 +1,11 @@
 // Shapes of graphs to measure on, the least time of runs in turns, and the high-water mark of a stack.
 #pragma once
 #include <algorithm>
-#include <chrono>
 #include <cstdlib>
 #include <cstring>
 #include <pthread.h>
 #include <random>
+#include <time.h>
 #include <vector>
 
 using Links = std::vector<std::vector<int>>;
@@ -43,21 +43,28 @@ inline Links dead_region() {
     return l;
 }
 
+// The time this thread has had, so that other work on the machine counts less.
 inline double seconds() {
-    return std::chrono::duration<double>(std::chrono::steady_clock::now().time_since_epoch()).count();
+    timespec t;
+    clock_gettime(CLOCK_THREAD_CPUTIME_ID, &t);
+    return double(t.tv_sec) + double(t.tv_nsec) * 1e-9;
 }
 
+template <class F> double timed(F f, int calls) {
+    double start = seconds();
+    for (int i = 0; i < calls; ++i) f();
+    return (seconds() - start) / calls;
+}
+
+// The least times of both, a call, over turns of at least 100 us or one call.
 template <class F, class G> void least(F f, G g, double &tf, double &tg) {
+    double first = std::min(timed(f, 1), timed(g, 1));
+    int calls = std::max(1, int(100e-6 / std::max(first, 1e-7)));
     tf = tg = 1e9;
-    double stop = seconds() + 0.4;
-    for (int i = 0; i < 5 || seconds() < stop; ++i) {
-        double a = seconds();
-        f();
-        double b = seconds();
-        g();
-        double c = seconds();
-        tf = std::min(tf, b - a);
-        tg = std::min(tg, c - b);
+    double stop = seconds() + 0.8;
+    for (int i = 0; i < 15 || seconds() < stop; ++i) {
+        tf = std::min(tf, timed(f, calls));
+        tg = std::min(tg, timed(g, calls));
     }
 }
 

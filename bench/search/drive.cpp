@@ -81,15 +81,8 @@ int main() {
         auto d = dead.fewest(65, 8);
         Asked a{dead.rows.data(), dead.targets.data(), d.data(), 0, 65, 8, 0, nullptr};
         uint32_t x[100], y[100];
-        double tx = 1e9, ty;
-        for (int i = 0; i < 1000; ++i) {
-            double b = seconds();
-            ours(a, x, 100);
-            tx = std::min(tx, seconds() - b);
-        }
-        double b = seconds();
-        distance_only(a, y, 100);
-        ty = seconds() - b;
+        double tx = 1e9, ty = timed([&] { distance_only(a, y, 100); }, 1);
+        for (int i = 0; i < 1000; ++i) tx = std::min(tx, timed([&] { ours(a, x, 100); }, 5));
         printf("%-44s against distances only: ratio %.6f   (%.1f us, %.0f us)\n", "the dead region, 8 hops", tx / ty, tx * 1e6, ty * 1e6);
     }
 
