@@ -68,21 +68,35 @@ template <class F, class G> void least(F f, G g, double &tf, double &tg) {
     }
 }
 
-inline void *nothing(void *) { return nullptr; }
+// The high-water mark of a call's stack, in bytes below its caller's frame: the call runs on a stack of its own, painted just
+// before. The least that can be told is 256.
+struct Painted {
+    void (*call)(void *);
+    void *with;
+    unsigned char *bottom;
+    size_t deep;
+};
 
-// bytes of a painted stack that a thread has written to
-inline size_t high_water(void *(*f)(void *), void *p) {
+inline void *painted(void *p) {
+    auto &s = *static_cast<Painted *>(p);
+    auto *top = static_cast<unsigned char *>(__builtin_frame_address(0));
+    memset(s.bottom, 0xa5, size_t(top - 256 - s.bottom));
+    s.call(s.with);
+    unsigned char *low = s.bottom;
+    while (low < top - 256 && *low == 0xa5) ++low;
+    s.deep = size_t(top - low);
+    return nullptr;
+}
+
+inline size_t high_water(void (*call)(void *), void *with) {
     const size_t size = 1 << 18;
     auto *stack = static_cast<unsigned char *>(aligned_alloc(4096, size));
-    memset(stack, 0xa5, size);
+    Painted s{call, with, stack, 0};
     pthread_attr_t attr;
     pthread_attr_init(&attr);
     pthread_attr_setstack(&attr, stack, size);
     pthread_t t;
-    if (pthread_create(&t, &attr, f, p)) return 0;
-    pthread_join(t, nullptr);
-    size_t low = 0;
-    while (low < size && stack[low] == 0xa5) ++low;
+    if (!pthread_create(&t, &attr, painted, &s)) pthread_join(t, nullptr);
     free(stack);
-    return size - low;
+    return s.deep;
 }

@@ -119,20 +119,21 @@ static uint64_t plain(const Call &c, Cells &out, Search *search = baseline) {
     uint8_t cells[PERSONS];
     fill(c.file.data(), &c.q, starts, targets);
     distances(starts, targets, c.q.to, uint8_t(c.q.hops), cells);
-    uint64_t r = search({starts, targets, cells, c.q.from, c.q.to, c.q.hops, c.bookmark ? 1u : 0u, c.bookmark}, out.data(), out.size());
+    Asked a{starts, targets, cells, c.q.from, c.q.to, c.q.hops, c.bookmark ? 1u : 0u, c.bookmark};
+    uint64_t r = search(a, out.data(), out.size());
     return r & ENDED ? r - ENDED : r + ENDED;
 }
 
 // Rows of the table.
 
-static const char *const FORM = "%-66s %9zu %7.2f %10.2f %10.2f\n";
-
 static void say(const std::string &name, uint64_t answer, double one, double other) {
-    printf(FORM, name.c_str(), size_t(answer & ~ENDED), one / other, one * 1e6, other * 1e6);
+    size_t chains = answer & ~ENDED;
+    printf("%-60s %8zu %8.*f %10.1f %10.1f %10.1f\n", name.c_str(), chains, one / other < 0.01 ? 6 : 2, one / other, one * 1e6,
+           other * 1e6, one * 1e9 / double(std::max(chains, size_t(1))));
 }
 
 static void head(const char *what, const char *other) {
-    printf("\n%-66s %9s %7s %10s %10s\n", what, "chains", "ratio", "ours us", other);
+    printf("\n%-60s %8s %8s %10s %10s %10s\n", what, "chains", "ratio", "ours us", other, "ns a chain");
 }
 
 static void compare(const std::string &name, const Call &c, size_t room) {
@@ -145,14 +146,16 @@ static void compare(const std::string &name, const Call &c, size_t room) {
 }
 
 static void whole_listings() {
-    head("whole listings (room for all, at most 1,000,000)", "plain us");
+    head("whole listings, or the first 1,000,000 chains", "plain us");
     Bytes dense = file_of(all_linked(64));
-    for (uint32_t k : {4, 5}) compare("64 persons all linked, " + std::to_string(k) + " hops", {dense, asked(0, 63, k), nullptr}, 1000000);
+    compare("64 persons all linked, 4 hops", {dense, asked(0, 63, 4), nullptr}, 1000000);
+    compare("64 persons all linked, 5 hops", {dense, asked(0, 63, 5), nullptr}, 1000000);
     Bytes medium = file_of(random_links(128, 1024, 1));
     compare("128 persons, 1,024 links at random, 8 hops", {medium, asked(0, 127, 8), nullptr}, 300000);
     for (unsigned seed = 1; seed <= 3; ++seed) {
         Bytes sparse = file_of(random_links(1024, 4096, seed));
-        compare("1,024 persons, 4,096 links at random " + std::to_string(seed) + ", 8 hops", {sparse, asked(0, 1023 - seed, 8), nullptr}, 10000);
+        compare("1,024 persons, 4,096 links at random " + std::to_string(seed) + ", 8 hops",
+                {sparse, asked(0, 1023 - seed, 8), nullptr}, 10000);
     }
 }
 
@@ -162,16 +165,20 @@ static void dead_regions() {
     Call c{file, asked(0, 65, 8), nullptr};
     compare("against the same pruning", c, 40);
     Cells x(400), y(400);
-    uint64_t n = 0;
-    double tx = 1e9, ty = timed([&] { n = plain(c, y, distance_only); }, 1);
+    uint64_t n = 0, m = 0;
+    double tx = 1e9, ty = timed([&] { m = plain(c, y, distance_only); }, 1);
     for (int i = 0; i < 1000; ++i) tx = std::min(tx, timed([&] { n = ours(c, x); }, 5));
-    if (x != y) puts("  DIFFERENT");
-    printf("%-66s %9zu %7.1e %10.2f %10.0f\n", "against distances only", size_t(n & ~ENDED), tx / ty, tx * 1e6, ty * 1e6);
-    for (int many : {1, 60}) {
+    if (n != m || x != y) puts("  DIFFERENT");
+    say("against distances only", n, tx, ty);
+    for (int many : {1, 60, 400}) {
         Bytes weak = file_of(many_into_dead(many));
         compare("the weak place: " + std::to_string(many) + " lead to To and into one dead region",
-                {weak, asked(0, uint32_t(2 + many + 50), 8), nullptr}, 100);
+                {weak, asked(0, uint32_t(2 + many + 50), 8), nullptr}, 1000);
     }
+}
+
+static Cells record(const Cells &cells, size_t i) {
+    return Cells(cells.begin() + long(i * RECORD), cells.begin() + long((i + 1) * RECORD));
 }
 
 // A portion of room 40 behind so many chains, found by going through the listing in large portions.
@@ -185,10 +192,9 @@ static void behind(const char *name, const Call &fresh, std::vector<size_t> befo
         r = ours(next, large);
         size_t count = r & ~ENDED;
         for (size_t i = 0; i < befores.size(); ++i)
-            if (befores[i] > gone && befores[i] <= gone + count)
-                marks[i].assign(large.begin() + long((befores[i] - gone - 1) * RECORD), large.begin() + long((befores[i] - gone) * RECORD));
+            if (befores[i] > gone && befores[i] <= gone + count) marks[i] = record(large, befores[i] - gone - 1);
         gone += count;
-        if (count) bookmark.assign(large.begin() + long((count - 1) * RECORD), large.begin() + long(count * RECORD));
+        if (count) bookmark = record(large, count - 1);
         next.bookmark = bookmark.data();
     } while (!(r & ENDED));
     printf("  a listing of %zu chains: %s\n", gone, name);
@@ -208,11 +214,11 @@ static void room_of_forty() {
     write_largest(largest.data());
     Bytes dense = largest_of(all_linked(64)), among = largest_of(drawn(128, 31, 1));
     Call sparse{largest, asked(0, 1023, 8), nullptr}, wide{among, asked(0, 127, 6), nullptr}, huge{dense, asked(0, 63, 8), nullptr};
-    head("a portion of room 40, fresh, on files with all counts at their limits", "plain us");
+    head("room 40, fresh, all counts of the file at their limits", "plain us");
     compare("four links a person, 8 hops", sparse, 40);
     compare("128 persons, 31 links each, 6 hops; the others out of reach", wide, 40);
     compare("64 persons all linked, 8 hops; the others out of reach", huge, 40);
-    head("a portion of room 40 after a bookmark, against fresh", "fresh us");
+    head("room 40, after a bookmark, against fresh", "fresh us");
     behind("128 persons, 31 links each, 6 hops", wide, {1, 1000, 1000000, 2817018, 4600000, 5633980});
     puts("  a listing of 62*61*60*59*58*57*56 chains and more: 64 persons all linked, 8 hops");
     const std::pair<const char *, Cells> places[] = {{"at the start", {8, 0, 1, 2, 3, 4, 5, 6, 7, 63}},
@@ -231,15 +237,11 @@ static void room_of_forty() {
 
 // The stack.
 
-static void *run(void *p) {
-    (*static_cast<std::function<void()> *>(p))();
-    return nullptr;
-}
+static void run(void *p) { (*static_cast<std::function<void()> *>(p))(); }
 
 static size_t stack_of(std::function<void()> f) {
-    std::function<void()> empty = [] {};
     f();
-    return high_water(run, &f) - high_water(run, &empty);
+    return high_water(run, &f);
 }
 
 static void stack() {
@@ -249,10 +251,12 @@ static void stack() {
     Call fresh{dense, q, nullptr}, later{dense, q, bookmark.data()};
     Bytes dead = file_of(dead_region());
     Call region{dead, asked(0, 65, 8), nullptr};
-    puts("\nhigh-water mark of the stack, bytes above an empty thread's");
+    puts("\nhigh-water mark of the stack, in bytes (256: that or less)");
     printf("kin_check   %6zu\n", stack_of([&] { kin_check(dense.data(), dense.size()); }));
     printf("kin_row     %6zu\n", stack_of([&] { kin_row(dense.data(), dense.size(), 7); }));
-    printf("kin_fewest  %6zu\n", stack_of([&] { kin_fewest(dense.data(), dense.size(), q.from, q.to, q.hops, q.classes, q.meaning, q.first, q.last, 7); }));
+    printf("kin_fewest  %6zu\n", stack_of([&] {
+               kin_fewest(dense.data(), dense.size(), q.from, q.to, q.hops, q.classes, q.meaning, q.first, q.last, 7);
+           }));
     for (uint32_t hops : {1, 4, 8}) {
         Call few = fresh;
         few.q.hops = hops;

@@ -49,10 +49,9 @@ static void compare(const char *name, const Graph &g, int from, int to, int hops
            chains ? tx * 1e9 / double(chains) : 0.0, n == m && x == y ? "" : "   DIFFERENT");
 }
 
-static void *search_once(void *p) {
+static void search_once(void *p) {
     static uint32_t out[400];
     ours(*static_cast<Asked *>(p), out, 400);
-    return nullptr;
 }
 
 int main() {
@@ -99,6 +98,6 @@ int main() {
             least([&] { ours(later, x.data(), x.size()); }, [&] { ours(fresh, x.data(), x.size()); }, tx, ty);
             printf("room 40, behind %7zu chains of 64 all linked, against fresh: ratio %.2f   (%.2f us, %.2f us)\n", before, tx / ty, tx * 1e6, ty * 1e6);
         }
-        printf("stack of a search of 8 hops: %zu bytes above an empty thread's\n", high_water(search_once, &fresh) - high_water(nothing, nullptr));
+        printf("stack of a search of 8 hops: %zu bytes\n", high_water(search_once, &fresh));
     }
 }
