@@ -1,8 +1,5 @@
-/* What the benchmarks in C share: the limits of a link file, its numbers, and the largest file: 1,024 persons with four
-   links each, of all kinds, dated and undated, from sixteen feeds of both meanings. */
-#ifndef LARGEST_H
-#define LARGEST_H
-
+/* Link files to measure with: how numbers are read and written, the limits of the counts, the largest file. */
+#pragma once
 #include <stdint.h>
 #include <stdlib.h>
 #include <string.h>
@@ -19,6 +16,8 @@ static uint8_t *put(uint8_t *at, uint32_t number, int bytes) {
   for (int i = 0; i < bytes; i++) at[i] = (uint8_t)(number >> 8 * i);
   return at + bytes;
 }
+
+/* The largest file: four links a person, of all kinds, dated and undated, from feeds of both meanings. */
 
 static int rising(const void *one, const void *other) { return *(const int *)one - *(const int *)other; }
 
@@ -48,5 +47,3 @@ static void write_largest(uint8_t *file) {
   for (uint32_t p = 0; p <= PERSONS; p++) at = put(at, 4 * p, 4);
   for (int p = 0; p < PERSONS; p++) at = put_row(at, p);
 }
-
-#endif
