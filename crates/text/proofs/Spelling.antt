@@ -78,8 +78,8 @@ module _ {out : List ℕ} {at n : ℕ} where
       let more = ap length (decimal-more n h) in
       omega (arith, more, length-append (decimal (n / 10)) ((48 + n % 10) ∷ []), printed-length p, p .place)
 
-  pub rest-room : 10 ≤ n → at + length (decimal n) ≤ length out → at + length (decimal (n / 10)) ≤ length out
-  rest-room h fits = let more = ap length (decimal-more n h) in omega (arith, more, length-append (decimal (n / 10)) ((48 + n % 10) ∷ []))
+pub rest-room : (n : ℕ) → 10 ≤ n → length (decimal (n / 10)) < length (decimal n)
+rest-room n h = let more = ap length (decimal-more n h) in omega (arith, more, length-append (decimal (n / 10)) ((48 + n % 10) ∷ []))
 
 -- how many digits there are
 pub one-long : (n : ℕ) → n < 10 → length (decimal n) ≡ 1

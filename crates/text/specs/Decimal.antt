@@ -1,4 +1,5 @@
 -- Numbers as they are printed. "Numbers are decimal." Definitions only.
+use mathlib.Core.Path.{_≡_}
 use mathlib.Core.List.{List, [], _∷_, _++_}
 use mathlib.Core.Bool.{cond}
 use Prim.Native.Nat.{ℕ, zero, suc, _+_, _*_, _/_, _%_, _<_}
@@ -19,6 +20,10 @@ unfoldable pub worth : List ℕ → ℕ
 worth [] = 0
 worth (d ∷ ds) = d + 10 * worth ds
 
--- each of them is a digit
-abbrev pub Digits : List ℕ → Type 0
-Digits counted = (i : ℕ) → i < length counted → getD counted i 0 < 10
+-- a count has forty digits
+abbrev pub digitCount : ℕ
+digitCount = 40
+
+pub record Digits (counted : List ℕ) : Type 0 where
+  pub long : length counted ≡ digitCount
+  pub each : (i : ℕ) → i < digitCount → getD counted i 0 < 10

@@ -42,7 +42,11 @@ unfoldable pub chainsAt : List ℕ → ℕ → ℕ → List (List ℕ)
 chainsAt cells number zero = []
 chainsAt cells number (suc count) = chainAt cells number ∷ chainsAt cells (suc number) count
 
--- the cells hold so many records, of at most 8 hops
-pub record Records (cells : List ℕ) (count : ℕ) : Type 0 where
-  pub whole : count * recordSize ≤ length cells
-  pub few : (number : ℕ) → number < count → getD cells (number * recordSize) 0 ≤ 8
+-- the record of a number lies in the cells, and has at most 8 hops
+pub record RecordAt (cells : List ℕ) (number : ℕ) : Type 0 where
+  pub whole : number * recordSize + recordSize ≤ length cells
+  pub few : getD cells (number * recordSize) 0 ≤ 8
+
+-- so do so many records
+abbrev pub Records : List ℕ → ℕ → Type 0
+Records cells count = (number : ℕ) → number < count → RecordAt cells number

@@ -25,6 +25,7 @@ pub fn count_on(counted: &mut [u8; DIGITS], more: usize)
 
 // The place of the first digit that is no zero, or of the last digit.
 fn first_digit(counted: &[u8; DIGITS]) -> usize
+    requires { ⌜ Digits (now counted) ⌝ }
     ensures { λ r. ⌜ (r < 40) × (worth (drop (r + 1) (now (counted .entry))) ≡ 0) × ((r ≡ 0) ⊎ (0 < getD (now (counted .entry)) r 0)) ⌝ }
 {
     let mut i = DIGITS - 1;
@@ -42,9 +43,8 @@ pub fn count(counted: &[u8; DIGITS], out: &mut [u8], at: usize) -> usize
     requires { ⌜ (Digits (now counted)) × (at + 40 ≤ length (now out)) ⌝ }
     ensures { λ r. ⌜ (Printed (now (out .entry)) at (decimal (worth (now (counted .entry)))) (now (out .exit)) r) × (r ≤ at + 40) ⌝ }
 {
-    let mut i = first_digit(counted);
-    out[at] = digit(counted[i] as u32);
-    let mut next = at + 1;
+    let mut i = first_digit(counted) + 1;
+    let mut next = at;
     while 0 < i {
         i -= 1;
         out[next] = digit(counted[i] as u32);

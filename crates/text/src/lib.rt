@@ -9,11 +9,13 @@ pub mod numbers;
 ghost use Prim.Native.Nat.{_+_, _≤_, _<_};
 ghost use lib.ListN.{length};
 ghost use Rattle.text.specs.Decimal.{worth, Digits};
-ghost use Rattle.text.specs.Lines.{Records, chainAt, chainLine, endLine, refusalLine};
+ghost use Rattle.text.specs.Lines.{RecordAt, Records, chainAt, chainLine, endLine, refusalLine};
 ghost use Rattle.text.specs.Printed.{Printed, Paged, longestLine};
 
 pub const RECORD: usize = 10;
+
 pub const DIGITS: usize = 40;
+
 pub const LONGEST_LINE: usize = 102;
 
 // How far a page goes: the first record that isn't on it, and its bytes.
@@ -37,7 +39,7 @@ fn put(words: &[u8], out: &mut [u8], at: usize) -> usize
 
 // The line of the chain in a record.
 pub fn line(cells: &[u32], chain: usize, out: &mut [u8], at: usize) -> usize
-    requires { ⌜ (Records (now cells) (chain + 1)) × (at + longestLine ≤ length (now out)) ⌝ }
+    requires { ⌜ (RecordAt (now cells) chain) × (at + longestLine ≤ length (now out)) ⌝ }
     ensures { λ r. ⌜ (Printed (now (out .entry)) at (chainLine (chainAt (now (cells .entry)) chain)) (now (out .exit)) r) × (r ≤ at + longestLine) ⌝ }
 {
     let first = chain * RECORD;

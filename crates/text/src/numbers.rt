@@ -13,7 +13,7 @@ pub fn digit(value: u32) -> u8
 }
 
 // A number of any length: what stands before the last digit, then the last digit.
-fn long_number(n: u32, out: &mut [u8], at: usize) -> usize
+fn spell(n: u32, out: &mut [u8], at: usize) -> usize
     requires { ⌜ at + length (decimal n) ≤ length (now out) ⌝ }
     ensures { λ r. ⌜ Printed (now (out .entry)) at (decimal n) (now (out .exit)) r ⌝ }
 {
@@ -21,7 +21,7 @@ fn long_number(n: u32, out: &mut [u8], at: usize) -> usize
         out[at] = digit(n);
         return at + 1;
     }
-    let last = long_number(n / 10, out, at);
+    let last = spell(n / 10, out, at);
     out[last] = digit(n % 10);
     last + 1
 }
@@ -46,5 +46,5 @@ pub fn number(n: u32, out: &mut [u8], at: usize) -> usize
         out[at + 2] = digit(n % 10);
         return at + 3;
     }
-    long_number(n, out, at)
+    spell(n, out, at)
 }

@@ -1,45 +1,42 @@
+-- `end_line` prints its parts one behind the other.
+use native.Mathlib.Omega.{arith}
+use Rattle.text.proofs.Printing.{printed-length}
+use Rattle.text.proofs.Lining.{end-done}
 use borrow.Author.Needs.{needs}
 use Rattle.text.proofs.end_line.Statement.{statement}
 use Rattle.text.proofs.end_line.Tie as tie
-use Rattle.text.proofs.end_line.Reads as reads
-use Rattle.text.proofs.end_line.Lts as lts
-use Rattle.text.proofs.counts.count.Reads as count-reads
-use Rattle.text.proofs.put.Reads as put-reads
 
--- src/lib.rt:81:20
-slice-aggregate-put : tie.Need-slice-aggregate-put
-slice-aggregate-put c = search needs
-
--- src/lib.rt:81:9
-put-requires : tie.Need-put-requires
-put-requires c κs = search needs
-
--- src/lib.rt:82:9
 count-requires : tie.Need-count-requires
-count-requires c κs = search needs
+count-requires c κs =
+    let at-start = c .before .before .before .before .before .before .before in
+    let at-put = c .before .before .before .put in
+    (at-start .pre .0, omega (arith, at-put .ensures .place, at-put .kept, at-start .pre .1))
 
--- src/lib.rt:83:5
 slice-write-out : tie.Need-slice-write-out
-slice-write-out c = ?
+slice-write-out c =
+    let at-count = c .before .before .count in
+    let at-put = c .before .before .before .before .before .before .put in
+    let at-start = c .before .before .before .before .before .before .before .before .before .before in
+    omega (arith, at-count .ensures .1, at-count .kept, at-put .ensures .place, at-put .kept, at-start .pre .1)
 
--- src/lib.rt:84:5
 add-result : tie.Need-add-result
-add-result c = ?
+add-result c = omega (arith, c .before .before .count .ensures .1, c .before .before .before .before .before .before .put .ensures .place)
 
--- src/lib.rt:77:1
 same-length : tie.Need-same-length
-same-length c = ?
+same-length c = printed-length (end-done _ (c .before .before .before .before .before .before .put .ensures) (c .before .before .count .ensures .0))
 
--- src/lib.rt:77:1
 returns : tie.Need-returns
-returns c = ?
+returns c =
+    let at-put = c .before .before .before .before .before .before .put in
+    let at-count = c .before .before .count in
+    (end-done _ (at-put .ensures) (at-count .ensures .0), omega (arith, at-count .ensures .1, at-put .ensures .place))
 
 pub end-line-spec : {M : Type 1} → statement M
 end-line-spec =
     tie.close
     (tie.spec
-    slice-aggregate-put
-    put-requires
+    (λ c. search needs)
+    (λ c κs. search needs)
     count-requires
     slice-write-out
     add-result

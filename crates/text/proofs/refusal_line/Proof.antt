@@ -1,59 +1,73 @@
+-- `refusal_line` prints its parts one behind the other.
+use native.Mathlib.Omega.{arith}
+use Rattle.text.proofs.Printing.{printed-length}
+use Rattle.text.proofs.Spelling.{number-length}
+use Rattle.text.proofs.Lining.{refusal-done}
 use borrow.Author.Needs.{needs}
 use Rattle.text.proofs.refusal_line.Statement.{statement}
 use Rattle.text.proofs.refusal_line.Tie as tie
-use Rattle.text.proofs.refusal_line.Reads as reads
-use Rattle.text.proofs.refusal_line.Lts as lts
-use Rattle.text.proofs.numbers.number.Reads as number-reads
-use Rattle.text.proofs.put.Reads as put-reads
 
--- src/lib.rt:92:24
-slice-aggregate-put : tie.Need-slice-aggregate-put
-slice-aggregate-put c = search needs
-
--- src/lib.rt:92:9
-put-requires : tie.Need-put-requires
-put-requires c κs = search needs
-
--- src/lib.rt:93:5
 number-requires : tie.Need-number-requires
-number-requires c κs = ?
+number-requires c κs =
+    let at-start = c .before .before .before .before .before .before .before in
+    let at-put = c .before .before .before .put in
+    omega (arith, number-length _ (at-start .fits .number .fits), at-put .ensures .place, printed-length (at-put .ensures), at-start .pre)
 
--- src/lib.rt:94:16
-slice-aggregate-put-2 : tie.Need-slice-aggregate-put-2
-slice-aggregate-put-2 c = search needs
-
--- src/lib.rt:94:5
 put-requires-2 : tie.Need-put-requires-2
-put-requires-2 c κs = ?
+put-requires-2 c κs =
+    let at-start = c .before .before .before .before .before .before .before .before .before .before .before .before in
+    let at-put = c .before .before .before .before .before .before .before .before .put in
+    let at-number = c .before .before .before .before .number in
+    omega (arith, number-length _ (at-start .fits .number .fits), at-put .ensures .place, printed-length (at-put .ensures), at-number .ensures .place, printed-length (at-number .ensures), at-start .pre)
 
--- src/lib.rt:95:5
 number-requires-2 : tie.Need-number-requires-2
-number-requires-2 c κs = ?
+number-requires-2 c κs =
+    let at-start = c .before .before .before .before .before .before .before .before .before .before .before .before .before .before .before .before in
+    let at-put = c .before .before .before .before .before .before .before .before .before .before .before .before .put in
+    let at-number = c .before .before .before .before .before .before .before .before .number in
+    let at-put2 = c .before .before .before .put2 in
+    omega (arith, number-length _ (at-start .fits .number .fits), number-length _ (at-start .fits .place .fits), at-put .ensures .place, printed-length (at-put .ensures), at-number .ensures .place, printed-length (at-number .ensures), at-put2 .ensures .place, printed-length (at-put2 .ensures), at-start .pre)
 
--- src/lib.rt:96:5
 slice-write-out : tie.Need-slice-write-out
-slice-write-out c = ?
+slice-write-out c =
+    let at-start = c .before .before .before .before .before .before .before .before .before .before .before .before .before .before .before .before .before .before .before in
+    let at-put = c .before .before .before .before .before .before .before .before .before .before .before .before .before .before .before .put in
+    let at-number = c .before .before .before .before .before .before .before .before .before .before .before .number in
+    let at-put2 = c .before .before .before .before .before .before .put2 in
+    let at-number2 = c .before .before .number2 in
+    omega (arith, number-length _ (at-start .fits .number .fits), number-length _ (at-start .fits .place .fits), at-put .ensures .place, printed-length (at-put .ensures), at-number .ensures .place, printed-length (at-number .ensures), at-put2 .ensures .place, printed-length (at-put2 .ensures), at-number2 .ensures .place, printed-length (at-number2 .ensures), at-start .pre)
 
--- src/lib.rt:97:5
 add-result : tie.Need-add-result
-add-result c = ?
+add-result c =
+    let at-start = c .before .before .before .before .before .before .before .before .before .before .before .before .before .before .before .before .before .before .before in
+    let at-put = c .before .before .before .before .before .before .before .before .before .before .before .before .before .before .before .put in
+    let at-number = c .before .before .before .before .before .before .before .before .before .before .before .number in
+    omega (arith, number-length _ (at-start .fits .number .fits), number-length _ (at-start .fits .place .fits), at-put .ensures .place, at-number .ensures .place, c .before .before .before .before .before .before .put2 .ensures .place, c .before .before .number2 .ensures .place)
 
--- src/lib.rt:88:1
 same-length : tie.Need-same-length
-same-length c = ?
+same-length c =
+    let at-start = c .before .before .before .before .before .before .before .before .before .before .before .before .before .before .before .before .before .before .before in
+    let at-put = c .before .before .before .before .before .before .before .before .before .before .before .before .before .before .before .put in
+    let at-number = c .before .before .before .before .before .before .before .before .before .before .before .number in
+    printed-length (refusal-done (at-start .args .number) (at-start .args .place) (at-put .ensures) (at-number .ensures) (c .before .before .before .before .before .before .put2 .ensures) (c .before .before .number2 .ensures))
 
--- src/lib.rt:88:1
 returns : tie.Need-returns
-returns c = ?
+returns c =
+    let at-start = c .before .before .before .before .before .before .before .before .before .before .before .before .before .before .before .before .before .before .before in
+    let at-put = c .before .before .before .before .before .before .before .before .before .before .before .before .before .before .before .put in
+    let at-number = c .before .before .before .before .before .before .before .before .before .before .before .number in
+    let at-put2 = c .before .before .before .before .before .before .put2 in
+    let at-number2 = c .before .before .number2 in
+    (refusal-done (at-start .args .number) (at-start .args .place) (at-put .ensures) (at-number .ensures) (at-put2 .ensures) (at-number2 .ensures), omega (arith, number-length _ (at-start .fits .number .fits), number-length _ (at-start .fits .place .fits), at-put .ensures .place, at-number .ensures .place, at-put2 .ensures .place, at-number2 .ensures .place))
 
 pub refusal-line-spec : {M : Type 1} → statement M
 refusal-line-spec =
     tie.close
     (tie.spec
-    slice-aggregate-put
-    put-requires
+    (λ c. search needs)
+    (λ c κs. search needs)
     number-requires
-    slice-aggregate-put-2
+    (λ c. search needs)
     put-requires-2
     number-requires-2
     slice-write-out

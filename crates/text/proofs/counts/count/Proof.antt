@@ -1,83 +1,56 @@
+-- `count` prints from the first digit that is no zero down: those below i are still to come.
+use borrow.Author.Needs.{needs}
+use native.Mathlib.Omega.{arith}
+use Prim.Native.Nat.{_-_}
+use Rattle.text.proofs.Counting.{Counting, count-starts, count-bytes, count-turn, count-ends, count-room, down-all}
 use Rattle.text.proofs.counts.count.Statement.{statement}
 use Rattle.text.proofs.counts.count.Tie as tie
-use Rattle.text.proofs.counts.count.Reads as reads
-use Rattle.text.proofs.counts.count.Lts as lts
-use Rattle.text.proofs.counts.first_digit.Reads as first-digit-reads
-use Rattle.text.proofs.numbers.digit.Reads as digit-reads
 
 abbrev Inv-loop : tie.InvT-loop
-Inv-loop counted out₀ at i₀ next₀ out i next = ?
+Inv-loop counted out₀ at i₀ next₀ out i next = Counting counted out₀ at i₀ out i next
 
 abbrev μ-loop : tie.MeasureT-loop
-μ-loop counted out₀ at i₀ next₀ out i next = ?
+μ-loop counted out₀ at i₀ next₀ out i next = i
 
--- src/counts.rt:45:9
 first-digit-requires : tie.Need-first-digit-requires Inv-loop μ-loop
-first-digit-requires c κs = ?
+first-digit-requires c κs = c .before .pre .0
 
--- src/counts.rt:46:21
-element-copy-out-digit : tie.Need-element-copy-out-digit Inv-loop μ-loop
-element-copy-out-digit c = ?
-
--- src/counts.rt:46:21
-cast-digit : tie.Need-cast-digit Inv-loop μ-loop
-cast-digit c = ?
-
--- src/counts.rt:46:15
-digit-requires : tie.Need-digit-requires Inv-loop μ-loop
-digit-requires c κs = ?
-
--- src/counts.rt:46:5
-slice-write-out : tie.Need-slice-write-out Inv-loop μ-loop
-slice-write-out c = ?
-
--- src/counts.rt:47:20
-add-next : tie.Need-add-next Inv-loop μ-loop
-add-next c = ?
-
--- src/counts.rt:48:5
 loop-holds : tie.Need-loop-holds Inv-loop μ-loop
-loop-holds c = ?
+loop-holds c = count-starts
 
--- src/counts.rt:49:9
-sub-i : tie.Need-sub-i Inv-loop μ-loop
-sub-i c = ?
+element-copy-out-digit : tie.Need-element-copy-out-digit Inv-loop μ-loop
+element-copy-out-digit c = omega (arith, c .before .loop .inv .within, c .before .before .first-digit .ensures .0, c .loop-test .taken)
 
--- src/counts.rt:50:27
-element-copy-out-digit-2 : tie.Need-element-copy-out-digit-2 Inv-loop μ-loop
-element-copy-out-digit-2 c = ?
+cast-digit : tie.Need-cast-digit Inv-loop μ-loop
+cast-digit c =
+    let at-loop = c .before .before .loop in
+    omega (arith, c .before .before .before .before .before .pre .0 .each (at-loop .i - 1) (omega (arith, at-loop .inv .within, c .before .before .before .first-digit .ensures .0, c .before .loop-test .taken)))
 
--- src/counts.rt:50:27
-cast-digit-2 : tie.Need-cast-digit-2 Inv-loop μ-loop
-cast-digit-2 c = ?
+digit-requires : tie.Need-digit-requires Inv-loop μ-loop
+digit-requires c κs =
+    let at-loop = c .before .before .loop in
+    c .before .before .before .before .before .pre .0 .each (at-loop .i - 1) (omega (arith, at-loop .inv .within, c .before .before .before .first-digit .ensures .0, c .before .loop-test .taken))
 
--- src/counts.rt:50:21
-digit-requires-2 : tie.Need-digit-requires-2 Inv-loop μ-loop
-digit-requires-2 c κs = ?
+slice-write-out : tie.Need-slice-write-out Inv-loop μ-loop
+slice-write-out c = count-room (c .before .before .before .loop .inv) (c .before .before .before .before .before .before .pre .1) (omega (arith, c .before .before .before .before .first-digit .ensures .0)) (c .before .before .loop-test .taken)
 
--- src/counts.rt:50:9
-slice-write-out-2 : tie.Need-slice-write-out-2 Inv-loop μ-loop
-slice-write-out-2 c = ?
+add-next : tie.Need-add-next Inv-loop μ-loop
+add-next c =
+    let at-loop = c .before .before .before .loop in
+    let at-start = c .before .before .before .before .before .before in
+    omega (arith, count-room (at-loop .inv) (at-start .pre .1) (omega (arith, c .before .before .before .before .first-digit .ensures .0)) (c .before .before .loop-test .taken), count-bytes (at-loop .inv), at-start .good .1 .0 .0)
 
--- src/counts.rt:51:9
-add-next-2 : tie.Need-add-next-2 Inv-loop μ-loop
-add-next-2 c = ?
-
--- src/counts.rt:48:5
-loop-less : tie.Need-loop-less Inv-loop μ-loop
-loop-less c = ?
-
--- src/counts.rt:48:5
 loop-again : tie.Need-loop-again Inv-loop μ-loop
-loop-again c = ?
+loop-again c = count-turn (c .before .before .before .loop .inv) (c .before .before .loop-test .taken) (c .digit .ensures)
 
--- src/counts.rt:41:1
 same-length : tie.Need-same-length Inv-loop μ-loop
-same-length c = ?
+same-length c = count-bytes (c .before .loop .inv)
 
--- src/counts.rt:41:1
 returns : tie.Need-returns Inv-loop μ-loop
-returns c = ?
+returns c =
+    let at-start = c .before .before .before .before in
+    let at-first-digit = c .before .before .first-digit in
+    (rw (down-all (at-start .args .counted .now) (at-start .pre .0) (at-first-digit .result) (at-first-digit .ensures .0) (at-first-digit .ensures .1) (at-first-digit .ensures .2)) (count-ends (c .before .loop .inv) (c .loop-test .left)), omega (arith, c .before .loop .inv .room, at-first-digit .ensures .0))
 
 pub count-spec : {M : Type 1} → statement M
 count-spec =
@@ -86,19 +59,15 @@ count-spec =
     Inv-loop
     μ-loop
     first-digit-requires
+    (λ c. search needs)
+    loop-holds
+    (λ c. search needs)
     element-copy-out-digit
     cast-digit
     digit-requires
     slice-write-out
     add-next
-    loop-holds
-    sub-i
-    element-copy-out-digit-2
-    cast-digit-2
-    digit-requires-2
-    slice-write-out-2
-    add-next-2
-    loop-less
+    (λ c. search needs)
     loop-again
     same-length
     returns)

@@ -1,57 +1,39 @@
+-- `count_on` goes from the last digit up: the digits below i are done, and the carry still goes to the others.
+use borrow.Author.Needs.{needs}
+use native.Mathlib.Omega.{arith}
+use Prim.Native.Nat.{_-_}
+use Rattle.text.proofs.Counting.{CountingOn, on-starts, on-digit, on-turn, on-ends}
 use Rattle.text.proofs.counts.count_on.Statement.{statement}
 use Rattle.text.proofs.counts.count_on.Tie as tie
-use Rattle.text.proofs.counts.count_on.Reads as reads
-use Rattle.text.proofs.counts.count_on.Lts as lts
 
 abbrev Inv-loop : tie.InvT-loop
-Inv-loop counted₀ more carry₀ i₀ counted carry i = ?
+Inv-loop counted₀ more carry₀ i₀ counted carry i = CountingOn counted₀ more counted carry i
 
 abbrev μ-loop : tie.MeasureT-loop
-μ-loop counted₀ more carry₀ i₀ counted carry i = ?
+μ-loop counted₀ more carry₀ i₀ counted carry i = 40 - i
 
--- src/counts.rt:18:5
 loop-holds : tie.Need-loop-holds Inv-loop μ-loop
-loop-holds c = ?
+loop-holds c = on-starts (c .pre .0) (search needs)
 
--- src/counts.rt:19:19
-element-copy-out-sum : tie.Need-element-copy-out-sum Inv-loop μ-loop
-element-copy-out-sum c = ?
-
--- src/counts.rt:19:19
 cast-sum : tie.Need-cast-sum Inv-loop μ-loop
-cast-sum c = ?
+cast-sum c = omega (arith, on-digit (c .before .before .loop .inv) (c .before .loop-test .taken))
 
--- src/counts.rt:19:19
 add-sum : tie.Need-add-sum Inv-loop μ-loop
-add-sum c = ?
+add-sum c = omega (arith, on-digit (c .before .before .loop .inv) (c .before .loop-test .taken))
 
--- src/counts.rt:20:22
 cast-counted : tie.Need-cast-counted Inv-loop μ-loop
-cast-counted c = ?
+cast-counted c = omega arith
 
--- src/counts.rt:20:9
-element-write-counted : tie.Need-element-write-counted Inv-loop μ-loop
-element-write-counted c = ?
-
--- src/counts.rt:21:17
 add-carry : tie.Need-add-carry Inv-loop μ-loop
-add-carry c = ?
+add-carry c =
+    let at-loop = c .before .before .loop in
+    omega (arith, on-digit (at-loop .inv) (c .before .loop-test .taken), at-loop .inv .small)
 
--- src/counts.rt:22:9
-add-i : tie.Need-add-i Inv-loop μ-loop
-add-i c = ?
-
--- src/counts.rt:18:5
-loop-less : tie.Need-loop-less Inv-loop μ-loop
-loop-less c = ?
-
--- src/counts.rt:18:5
 loop-again : tie.Need-loop-again Inv-loop μ-loop
-loop-again c = ?
+loop-again c = on-turn (c .before .before .loop .inv) (c .before .loop-test .taken)
 
--- src/counts.rt:12:1
 returns : tie.Need-returns Inv-loop μ-loop
-returns c = ?
+returns c = (c .before .loop .inv .digits, on-ends (c .before .loop .inv) (c .loop-test .left) (c .before .before .pre .1))
 
 pub count-on-spec : {M : Type 1} → statement M
 count-on-spec =
@@ -60,13 +42,13 @@ count-on-spec =
     Inv-loop
     μ-loop
     loop-holds
-    element-copy-out-sum
+    (λ c. search needs)
     cast-sum
     add-sum
     cast-counted
-    element-write-counted
+    (λ c. search needs)
     add-carry
-    add-i
-    loop-less
+    (λ c. search needs)
+    (λ c. search needs)
     loop-again
     returns)

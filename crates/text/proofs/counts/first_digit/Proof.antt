@@ -1,45 +1,30 @@
+-- `first_digit` goes down from the first digit: those passed are zeros.
+use borrow.Author.Needs.{needs}
+use native.Mathlib.Omega.{arith}
+use mathlib.Core.Logic.{inl, inr}
+use Rattle.text.proofs.Counting.{Seeking, seek-starts, seek-turn}
 use Rattle.text.proofs.counts.first_digit.Statement.{statement}
 use Rattle.text.proofs.counts.first_digit.Tie as tie
-use Rattle.text.proofs.counts.first_digit.Reads as reads
-use Rattle.text.proofs.counts.first_digit.Lts as lts
 
 abbrev Inv-loop : tie.InvT-loop
-Inv-loop counted i₀ i = ?
+Inv-loop counted i₀ i = Seeking counted i
 
 abbrev μ-loop : tie.MeasureT-loop
-μ-loop counted i₀ i = ?
+μ-loop counted i₀ i = i
 
--- src/counts.rt:30:17
-sub-i : tie.Need-sub-i Inv-loop μ-loop
-sub-i c = ?
-
--- src/counts.rt:31:5
 loop-holds : tie.Need-loop-holds Inv-loop μ-loop
-loop-holds c = ?
+loop-holds c = seek-starts (c .pre)
 
--- src/counts.rt:32:12
-element-copy-out-if1 : tie.Need-element-copy-out-if1 Inv-loop μ-loop
-element-copy-out-if1 c = ?
-
--- src/counts.rt:33:13
 returns : tie.Need-returns Inv-loop μ-loop
-returns c = ?
+returns c =
+    let at-loop = c .before .before .before .loop in
+    (at-loop .inv .within, at-loop .inv .zeros, inr (omega (arith, c .if1 .taken)))
 
--- src/counts.rt:35:9
-sub-i-2 : tie.Need-sub-i-2 Inv-loop μ-loop
-sub-i-2 c = ?
-
--- src/counts.rt:31:5
-loop-less : tie.Need-loop-less Inv-loop μ-loop
-loop-less c = ?
-
--- src/counts.rt:31:5
 loop-again : tie.Need-loop-again Inv-loop μ-loop
-loop-again c = ?
+loop-again c = seek-turn (c .before .before .before .before .pre) (c .before .before .before .loop .inv) (c .before .before .loop-test .taken) (c .if1 .left)
 
--- src/counts.rt:27:1
 returns-2 : tie.Need-returns-2 Inv-loop μ-loop
-returns-2 c = ?
+returns-2 c = (c .before .loop .inv .within, c .before .loop .inv .zeros, inl (omega (arith, c .loop-test .left)))
 
 pub first-digit-spec : {M : Type 1} → statement M
 first-digit-spec =
@@ -47,11 +32,11 @@ first-digit-spec =
     (tie.spec
     Inv-loop
     μ-loop
-    sub-i
+    (λ c. search needs)
     loop-holds
-    element-copy-out-if1
+    (λ c. search needs)
     returns
-    sub-i-2
-    loop-less
+    (λ c. search needs)
+    (λ c. search needs)
     loop-again
     returns-2)
