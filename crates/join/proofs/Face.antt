@@ -20,12 +20,14 @@ use Rattle.ways.proofs.Records.{listing-fits}
 use Rattle.ways.proofs.ByHops.{byHops-iff}
 use Rattle.ways.proofs.Join.{join, join-all, right-within}
 use Rattle.compact.specs.Compact.{persons, graphOf, Compact}
-use Rattle.join.specs.Lists.{recordSize, halvesFault}
-use Rattle.join.specs.Answers.{answerSaid, answerFor, cellsFor, Answered, Passed, halvesIn, JoinsIn}
+use Rattle.portion.specs.Listing.{recordSize}
+use Rattle.join.specs.Lists.{halvesFault}
+use Rattle.portion.specs.Answers.{answerSaid, answerFor, cellsFor}
+use Rattle.join.specs.Answers.{Answered, Passed, halvesIn, JoinsIn}
 use Rattle.join.specs.Pages.{size, Page, page, emits, recordWith}
 use Rattle.join.specs.Walks.{rightsOf, Indexed}
 use Rattle.join.specs.Shelf.{Ended, blank, nothing, halvesBefore, Shelve, Shelved, fromOne, waysOf, Gather, Gathered}
-use Rattle.join.specs.declared.Joined as code
+use Rattle.portion.specs.declared.Answer as code
 use Rattle.join.specs.declared.extend.Found.{Found}
 use Rattle.join.proofs.Cases.{lt-or-le}
 use Rattle.join.proofs.Meeting.{Marked, nobody, marked-more, meet-all}

@@ -16,18 +16,20 @@ use Rattle.ways.specs.Records.{roomOf, written}
 use Rattle.ways.proofs.ByHops.{byHops-iff}
 use Rattle.question.specs.declared.Question.{Question}
 use Rattle.question.specs.Admission.{next}
-use Rattle.join.specs.Lists.{recordSize, halvesFor, chainsFor, joinFault, firstOnes, allFit}
-use Rattle.join.specs.Answers.{Answer, listed, refused, answerSaid, answerFor, cellsFor, Joins}
-use Rattle.join.specs.declared.Joined as code
+use Rattle.portion.specs.Listing.{recordSize}
+use Rattle.join.specs.Lists.{halvesFor, chainsFor, joinFault, firstOnes, allFit}
+use Rattle.portion.specs.Answers.{Answer, listed, refused, answerSaid, answerFor, cellsFor}
+use Rattle.join.specs.Answers.{Joins}
+use Rattle.portion.specs.declared.Answer as code
 
 -- what an answer says tells which answer it is
-answer-said : (a b : code.Joined) → answerSaid a ≡ answerSaid b → a ≡ b
+answer-said : (a b : code.Answer) → answerSaid a ≡ answerSaid b → a ≡ b
 answer-said (code.the-variants.Listed n e) (code.the-variants.Listed m f) h = cc
 answer-said (code.the-variants.Refused number place) (code.the-variants.Refused other there) h = cc
 answer-said (code.the-variants.Listed n e) (code.the-variants.Refused number place) h = let z : _≡_ {A = ℕ} 0 1 = cc in absurd (omega arith)
 answer-said (code.the-variants.Refused number place) (code.the-variants.Listed n e) h = let z : _≡_ {A = ℕ} 0 1 = cc in absurd (omega arith)
 
-pub join-one : {file : List ℕ} {q : Question} {working working₁ working₂ out out₁ out₂ : List ℕ} {a b : code.Joined} → Joins file q working working₁ out out₁ a → Joins file q working working₂ out out₂ b
+pub join-one : {file : List ℕ} {q : Question} {working working₁ working₂ out out₁ out₂ : List ℕ} {a b : code.Answer} → Joins file q working working₁ out out₁ a → Joins file q working working₂ out out₂ b
     → (a ≡ b) × (working₁ ≡ working₂) × (out₁ ≡ out₂)
 join-one {a = a} {b} p q = (answer-said a b (p .answers ∙ sym (q .answers)), p .shelf ∙ sym (q .shelf), p .cells ∙ sym (q .cells))
 

@@ -26,9 +26,10 @@ use Rattle.question.specs.Admission.{next}
 use Rattle.question.specs.Filled.{Filled, Fillable}
 use Rattle.question.proofs.Refused.{asked-passed}
 use Rattle.question.proofs.Leads.{next-none}
-use Rattle.join.specs.Lists.{recordSize, halvesFor, chainsFor, roomFault, halvesFault, joinFault}
+use Rattle.portion.specs.Listing.{recordSize}
+use Rattle.join.specs.Lists.{halvesFor, chainsFor, roomFault, halvesFault, joinFault}
 use Rattle.join.specs.Answers.{Answered, Joins, Passed, halvesIn, JoinsIn}
-use Rattle.join.specs.declared.Joined as code
+use Rattle.portion.specs.declared.Answer as code
 use Rattle.join.proofs.Cases.{lt-or-le}
 use Rattle.join.proofs.Standing.{low-persons}
 
@@ -90,7 +91,7 @@ module _ (file : List ℕ) (q : Question) {answer : look.Fault} (asks : Asks fil
       same-fault : (working out : List ℕ) → recordSize ≤ length out → joinFault file q working out ≡ halvesFault recordSize (length working) (halvesFor file q)
       same-fault working out h = ap (λ (d : Fault). firstOf d (roomFault recordSize (length out) (halvesFault recordSize (length working) (halvesFor file q)))) none ∙ rw (le-leb recordSize (length out) h)
 
-      pub join-joins : {working working′ out out′ : List ℕ} {r : code.Joined} → recordSize ≤ length out → JoinsIn rows targets (q .from) (q .to) (q .hops) working working′ out out′ r → Joins file q working working′ out out′ r
+      pub join-joins : {working working′ out out′ : List ℕ} {r : code.Answer} → recordSize ≤ length out → JoinsIn rows targets (q .from) (q .to) (q .hops) working working′ out out′ r → Joins file q working working′ out out′ r
       join-joins {working} {working′} {out} {out′} {r} h j =
           let a : Answered (halvesFor file q) (chainsFor file q) working working′ out out′ r =
           subst (λ c. Answered (halvesFor file q) c working working′ out out′ r) same-chains

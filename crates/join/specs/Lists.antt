@@ -12,10 +12,7 @@ use Rattle.ways.specs.Halves.{halves, halvesFit}
 use Rattle.question.specs.declared.Question.{Question}
 use Rattle.question.specs.Asked.{askedFault}
 use Rattle.question.specs.Admission.{next}
-
--- "A chain record has ten 32-bit cells"
-abbrev pub recordSize : ℕ
-recordSize = 10
+use Rattle.portion.specs.Listing.{recordSize}
 
 -- the half chains: "the simple admitted sequences of 0 to k/2 hops (rounded down) ending at To and not visiting From, also
 -- (To) alone", shorter first, then in dictionary order

@@ -14,6 +14,7 @@ use compact::LINKS;
 use compact::PERSONS;
 use compact::STARTS;
 use linkfile::Fault;
+use portion::Answer;
 use question::Question;
 
 // A chain record has ten cells: the hops, the persons, zeros.
@@ -25,12 +26,6 @@ pub const HOPS: usize = 8;
 // The index of the half chains has a place for each number of hops and each first person, and an end.
 pub const INDEX: usize = (HOPS / 2 + 1) * PERSONS + 1;
 
-// What a join answers.
-pub enum Joined {
-    Listed { count: usize, ended: bool },
-    Refused { number: u32, place: u32 },
-}
-
 // The join over the compact graph: the half chains are counted before any cell is written.
 fn join_graph(
     rows: &[u16; STARTS],
@@ -40,7 +35,7 @@ fn join_graph(
     hops: u32,
     working: &mut [u32],
     out: &mut [u32],
-) -> Joined
+) -> Answer
     requires { ⌜ Passed (now rows) (now targets) from to hops ⌝ }
     ensures { λ r. ⌜ JoinsIn (now (rows .entry)) (now (targets .entry)) from to hops (now (working .entry)) (now (working .exit)) (now (out .entry)) (now (out .exit)) r ⌝ }
 {
@@ -66,7 +61,7 @@ fn join_graph(
         places,
     );
     if counted.more != 0 {
-        return Joined::Refused {
+        return Answer::Refused {
             number: 18,
             place: 0,
         };
@@ -92,21 +87,21 @@ fn join_graph(
         source,
         most,
     );
-    Joined::Listed {
+    Answer::Listed {
         count: found.count,
         ended: found.more == 0,
     }
 }
 
 // Lists the chains by joining half chains: all half chains are written to `working`, the first chains, shorter first, to `out`.
-pub fn join(file: &[u8], question: Question, working: &mut [u32], out: &mut [u32]) -> Joined
+pub fn join(file: &[u8], question: Question, working: &mut [u32], out: &mut [u32]) -> Answer
     ensures { λ r. ⌜ Joins (now (file .entry)) question (now (working .entry)) (now (working .exit)) (now (out .entry)) (now (out .exit)) r ⌝ }
 {
     if let Fault::At(number, place) = question::asked(file, question) {
-        return Joined::Refused { number, place };
+        return Answer::Refused { number, place };
     }
     if out.len() < RECORD {
-        return Joined::Refused {
+        return Answer::Refused {
             number: 16,
             place: 0,
         };

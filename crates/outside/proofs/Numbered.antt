@@ -2,7 +2,7 @@
 use mathlib.Core.Path.{_≡_, refl, sym, ap, subst, _∙_}
 use mathlib.Core.Bool.{Bool, true, false, not}
 use mathlib.Core.List.{List}
-use Prim.Native.Nat.{ℕ, _+_, _*_, _/_, _<_, _≤_, min}
+use Prim.Native.Nat.{ℕ, _+_, _*_, _/_, _^_, _<_, _≤_, min}
 use native.Mathlib.Omega.{arith}
 use lib.ListN.{length, length-take}
 use lib.Dec.{eqb, leb, ltb}
@@ -23,7 +23,7 @@ use Rattle.distance.specs.declared.Answer as distance-code
 use Rattle.portion.specs.Listing.{recordSize, listingFor, Start, fresh, after as following, startFault, portionFault, portionFor, endedFor, startsAfter}
 use Rattle.portion.specs.Answers as portion
 use Rattle.portion.specs.declared.Answer as portion-code
-use Rattle.outside.specs.Encoded.{endedNumber}
+use Rattle.outside.specs.Encoded.{Small, endedNumber}
 
 at-most-more : (a b : ℕ) → a ≤ b → (f : Fault) → AtMost a f → AtMost b f
 at-most-more a b h sound i = tt
@@ -92,17 +92,10 @@ fewest-refused file q person {number = number} {place} is e = go (firstOf (fileF
     go sound h i e = let z : _≡_ {A = ℕ} 0 1 = cc in absurd (omega arith)
     go (fault r p) h i e = let same : r ≡ number = cc in omega arith
 
-module _ {file : List ℕ} {q : Question} {start : Start} {out out′ : List ℕ} {answer : portion-code.Answer} (p : portion.Portioned file q start out out′ answer) where
-  pub portion-refused : {number place : ℕ} → answer ≡ portion-code.the-variants.Refused number place → number ≤ 17
-  portion-refused {number} {place} e = go (portionFault file q start out) (length (portionFor file q start out)) (endedFor file q start out) (portion-number file q start out) (sym (p .answers) ∙ ap portion.answerSaid e)
-    where
-      go : (f : Fault) (n : ℕ) (b : Bool) → AtMost 17 f → portion.answerFor f n b ≡ portion.refused number place → number ≤ 17
-      go sound n b i e = let z : _≡_ {A = ℕ} 0 1 = cc in absurd (omega arith)
-      go (fault r t) n b i e = let same : r ≡ number = cc in omega arith
-
-  pub portion-few : {count : ℕ} {ended : Bool} → answer ≡ portion-code.the-variants.Listed count ended → count ≤ length out
-  portion-few {count} {ended} e = go (portionFault file q start out) (sym (p .answers) ∙ ap portion.answerSaid e)
-    where
-      go : (f : Fault) → portion.answerFor f (length (portionFor file q start out)) (endedFor file q start out) ≡ portion.listed count ended → count ≤ length out
-      go sound e = let same : length (portionFor file q start out) ≡ count = cc in omega (arith, length-take (roomOf recordSize (length out)) (after (startsAfter start) (listingFor file q)))
-      go (fault r t) e = let z : _≡_ {A = ℕ} 0 1 = cc in absurd (omega arith)
+-- the portion's answer has room in 64 bits
+pub portion-small : {file : List ℕ} {q : Question} {start : Start} {out out′ : List ℕ} {answer : portion-code.Answer} → portion.Portioned file q start out out′ answer → length out < 2 ^ 62 → Small (portion.answerSaid answer)
+portion-small {file} {q} {start} {out} p h = subst Small (sym (p .answers)) (go (portionFault file q start out) (portion-number file q start out))
+  where
+    go : (f : Fault) → AtMost 17 f → Small (portion.answerFor f (length (portionFor file q start out)) (endedFor file q start out))
+    go sound i = omega (arith, length-take (roomOf recordSize (length out)) (after (startsAfter start) (listingFor file q)))
+    go (fault r t) i = omega arith

@@ -2,7 +2,7 @@
 use mathlib.Core.Path.{_≡_}
 use mathlib.Core.Bool.{Bool, true, false}
 use mathlib.Core.List.{List}
-use Prim.Native.Nat.{ℕ, _+_, _*_, _^_}
+use Prim.Native.Nat.{ℕ, _+_, _*_, _^_, _<_, _≤_}
 use lib.ListN.{length}
 use Rattle.linkfile.specs.Verdict.{Verdict, passed, refused}
 use Rattle.question.specs.declared.Question.{Question}
@@ -40,6 +40,11 @@ endedNumber false = 0
 abbrev pub listedNumber : portion.Answer → ℕ
 listedNumber (portion.listed count ended) = count + endedNumber ended * 2 ^ 62
 listedNumber (portion.refused number place) = refusalNumber number place
+
+-- an answer whose numbers have room in it
+abbrev pub Small : portion.Answer → Type 0
+Small (portion.listed count ended) = count < 2 ^ 62
+Small (portion.refused number place) = number ≤ 18
 
 -- the portion's answer as a number, and the output at exit
 pub record PortionNumber (file : List ℕ) (q : Question) (start : Start) (out out′ : List ℕ) (answer : ℕ) : Type 0 where

@@ -3,13 +3,17 @@
 // Every function is total: any bytes, any numbers. Each is a thin face over one public operation of the rooms below, and its
 // contract is that operation's answer in the encoding of specs/. A refusal is 2^63 + number * 2^32 + place.
 use linkfile::Verdict;
+use portion::Answer;
 use question::Question;
 ghost use mathlib.Core.Path.{_≡_};
 ghost use lib.ListN.{length};
 ghost use Rattle.linkfile.specs.Checked.{checked};
 ghost use Rattle.linkfile.specs.Rows.{rowView};
 ghost use Rattle.portion.specs.Listing.{startSaid};
-ghost use Rattle.outside.specs.Encoded.{verdictNumber, fewestNumber, PortionNumber, asking};
+ghost use Rattle.portion.specs.Answers.{answerSaid};
+ghost use Rattle.outside.specs.Encoded.{verdictNumber, fewestNumber, Small, listedNumber, PortionNumber, asking};
+ghost use Rattle.outside.specs.HeldCells.{heldOf, heldCells, HeldNumber};
+use held::Held;
 
 // Passed: n + m * 2^16 + f * 2^32.
 #[no_mangle]
@@ -34,6 +38,19 @@ pub extern "C" fn kin_row(file: &[u8], person: u32) -> u64
     ensures { λ r. ⌜ r ≡ length (rowView (now (file .entry)) person) ⌝ }
 {
     linkfile::row(file, person).len() as u64
+}
+
+// Listed: count + ended * 2^62; or the refusal.
+fn listed_number(answer: Answer) -> u64
+    requires { ⌜ Small (answerSaid answer) ⌝ }
+    ensures { λ r. ⌜ r ≡ listedNumber (answerSaid answer) ⌝ }
+{
+    match answer {
+        Answer::Listed { count, ended } => { count as u64 + ended as u64 * 0x4000_0000_0000_0000 }
+        Answer::Refused { number, place } => {
+            0x8000_0000_0000_0000 + number as u64 * 0x1_0000_0000 + place as u64
+        }
+    }
 }
 
 // The fewest hops, or hops + 1.
@@ -94,11 +111,73 @@ pub extern "C" fn kin_portion(
         first,
         last,
     };
-    match portion::portion(file, question, started, bookmark, out) {
-        portion::Answer::Listed { count, ended } => count as u64
-            + ended as u64 * 0x4000_0000_0000_0000,
-        portion::Answer::Refused { number, place } => {
-            0x8000_0000_0000_0000 + number as u64 * 0x1_0000_0000 + place as u64
-        }
+    listed_number(portion::portion(file, question, started, bookmark, out))
+}
+
+// A held listing in cells: the seven numbers of its question, started, the record.
+const HELD: usize = 18;
+
+fn held_of(cells: &[u32]) -> Held
+    requires { ⌜ length (now cells) ≡ 18 ⌝ }
+    ensures { λ r. ⌜ r ≡ heldOf (now (cells .entry)) ⌝ }
+{
+    Held {
+        question: Question {
+            from: cells[0],
+            to: cells[1],
+            hops: cells[2],
+            classes: cells[3],
+            meaning: cells[4],
+            first: cells[5],
+            last: cells[6],
+        },
+        started: cells[7],
+        record: [
+            cells[8],
+            cells[9],
+            cells[10],
+            cells[11],
+            cells[12],
+            cells[13],
+            cells[14],
+            cells[15],
+            cells[16],
+            cells[17],
+        ],
     }
+}
+
+// A call changes started and the record at most; the question stays.
+fn keep(cells: &mut [u32], held: Held)
+    requires { ⌜ length (now cells) ≡ 18 ⌝ }
+    ensures { λ _. ⌜ now (cells .exit) ≡ heldCells (now (cells .entry)) held ⌝ }
+{
+    let record = held.record;
+    cells[7] = held.started;
+    cells[8] = record[0];
+    cells[9] = record[1];
+    cells[10] = record[2];
+    cells[11] = record[3];
+    cells[12] = record[4];
+    cells[13] = record[5];
+    cells[14] = record[6];
+    cells[15] = record[7];
+    cells[16] = record[8];
+    cells[17] = record[9];
+}
+
+// Moves a held listing on by a portion: 18 lent cells. Answers as kin_portion; with other than 18 cells it answers 2^63 before
+// anything else is looked at, and changes nothing.
+#[no_mangle]
+pub extern "C" fn kin_held(cells: &mut [u32], file: &[u8], out: &mut [u32]) -> u64
+    ensures { λ r. ⌜ HeldNumber (now (file .entry)) (now (cells .entry)) (now (cells .exit)) (now (out .entry)) (now (out .exit)) r ⌝ }
+{
+    if cells.len() != HELD {
+        return 0x8000_0000_0000_0000;
+    }
+    let outcome = held::moved(held_of(cells), file, out);
+    let after = outcome.held;
+    let answer = outcome.answer;
+    keep(cells, after);
+    listed_number(answer)
 }
