@@ -30,7 +30,7 @@ use Rattle.portion.proofs.LaidEnd.{laid-end-to-end}
 use Rattle.held.specs.declared.Held.{Held}
 use Rattle.held.specs.Holding.{startOf, heldAfter, heldFor, MovedOn}
 use Rattle.held.specs.Calls.{Run, rests, moves, refusal, Quiet}
-use Rattle.held.proofs.Keeping.{sound-asked, listed-in, listed-fits, listed-sound, listed-count, listed-ended, listed-last, refused-fault}
+use Rattle.held.proofs.Telling.{sound-asked, listed-in, listed-fits, listed-sound, listed-count, listed-ended, listed-last, refused-fault}
 
 module _ {file : List ℕ} {held held′ : Held} {out out′ : List ℕ} {answer : code.Answer} (m : MovedOn file held held′ out out′ answer) where
   -- a refusal leaves the held listing as it was
