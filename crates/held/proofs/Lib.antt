@@ -1,5 +1,5 @@
+pub mod OneResult
 pub mod Lies
 pub mod Copied
-pub mod Keeping
-pub mod OneResult
+pub mod Telling
 pub mod Onward

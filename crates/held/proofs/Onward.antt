@@ -3,7 +3,7 @@ use mathlib.Core.Path.{_≡_, refl, sym, ap, subst, _∙_}
 use mathlib.Core.Logic.{_⊎_, inl, inr}
 use mathlib.Core.Bool.{Bool, true, false}
 use mathlib.Core.List.{List, [], _∷_, List·Memᴰ·head, List·Memᴰ·tail}
-use Prim.Native.Nat.{ℕ, suc, _≤_}
+use Prim.Native.Nat.{ℕ, _≤_}
 use native.Mathlib.Omega.{arith}
 use lib.ListN.{length}
 use lib.Seq.{take-nil}
@@ -30,7 +30,7 @@ use Rattle.portion.proofs.LaidEnd.{laid-end-to-end}
 use Rattle.held.specs.declared.Held.{Held}
 use Rattle.held.specs.Holding.{startOf, heldAfter, heldFor, MovedOn}
 use Rattle.held.specs.Calls.{Run, rests, moves, refusal, Quiet}
-use Rattle.held.proofs.Keeping.{sound-asked, listed-in, listed-fits, listed-sound, listed-count, listed-ended, listed-last, refused-fault}
+use Rattle.held.proofs.Telling.{sound-asked, listed-in, listed-fits, listed-sound, listed-count, listed-ended, listed-last, refused-fault}
 
 module _ {file : List ℕ} {held held′ : Held} {out out′ : List ℕ} {answer : code.Answer} (m : MovedOn file held held′ out out′ answer) where
   -- a refusal leaves the held listing as it was
@@ -41,7 +41,8 @@ module _ {file : List ℕ} {held held′ : Held} {out out′ : List ℕ} {answer
   listed-moves : {count : ℕ} {ended : Bool} → answerSaid answer ≡ listed count ended → held′ ≡ heldAfter (portionFor file (held .question) (startOf held) out) held
   listed-moves said = m .keeps ∙ rw (listed-sound (m .portioned) said)
 
-  same-question : held′ .question ≡ held .question
+  -- it keeps its question
+  pub same-question : held′ .question ≡ held .question
   same-question = ap (λ (h : Held). h .question) (m .keeps) ∙ go (portionFault file (held .question) (startOf held) out) (portionFor file (held .question) (startOf held) out)
     where
       go : (f : Fault) (P : List (List ℕ)) → heldFor f P held .question ≡ held .question

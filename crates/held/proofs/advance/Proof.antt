@@ -1,6 +1,8 @@
--- `held::advance` meets its contract: a walk of its MIR, by hand. The borrow of the struct is opened, which gives the struct's cell; a copy of the cell goes to `moved`, with a copy of the file's borrow and with the out list's borrow, which is given up for good; of what `moved` returns the first field is stored in the cell, whole, and the borrow is closed at it; the second field is the answer.
--- All that the proof knows of `moved` is that it meets its contract. No struct and no enum is taken apart: each machine value is what the type's laws spell, so the proof does not depend on the fields.
--- Assumes nothing.
+-- `advance` meets its contract: a walk of its code, by hand. The borrow of the struct is opened, which gives the struct's cell; a copy of
+-- the cell goes to `moved`, with a copy of the file's borrow and with the output's borrow, which is given up for good; of what `moved`
+-- returns the first field is stored in the cell, whole, and the borrow is closed at it; the second field is the answer.
+-- All that the proof knows of `moved` is its promise. No struct and no enum is taken apart: each machine value is what the type's laws
+-- spell, so the proof does not depend on the fields.
 use mathlib.Core.Path.{_≡_, refl, ap}
 use Prim.Native.Nat.{ℕ}
 use mathlib.Core.List.{[], _∷_, List}

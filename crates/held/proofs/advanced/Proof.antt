@@ -1,6 +1,7 @@
--- `held::advanced` meets its contract: a walk of its MIR, by hand. The struct is copied into a local, the local is lent to `advance` for a lifetime that is made for the call, and comes back at the value that `advance` ensures (`Lies.antt`); a copy of the file's borrow goes to it, and the out list's borrow, which is given up for good.
--- All that the proof knows of `advance` is that it meets its contract. No struct and no enum is taken apart.
--- Assumes nothing.
+-- `advanced` meets its contract: a walk of its code, by hand. The struct is copied into a local, the local is lent to `advance` for a
+-- lifetime that is made for the call, and comes back at the value that `advance` promises (Lies); a copy of the file's borrow goes to it,
+-- and the output's borrow, which is given up for good.
+-- All that the proof knows of `advance` is its promise. No struct and no enum is taken apart.
 use mathlib.Core.Path.{_≡_, refl, ap}
 use Prim.Native.Nat.{ℕ}
 use mathlib.Core.List.{[], _∷_, List}

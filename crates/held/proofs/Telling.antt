@@ -1,4 +1,4 @@
--- From the portion's promise to the held listing's: which case the answer tells, and where the last record stands.
+-- What the answer of a portion tells of the held listing: which case of its promise holds, and where the last record stands.
 use mathlib.Core.Path.{_≡_, refl, sym, ap, subst, _∙_}
 use mathlib.Core.Bool.{Bool, true, false}
 use mathlib.Core.List.{List, [], _∷_}
