@@ -168,6 +168,19 @@ pub fn undated(persons: usize, pairs: &[(u32, u32)]) -> LinkFile {
     }
 }
 
+/// An undated graph in which about `parts` of ten links are there: sparse ones have dead ends and ways that reopen.
+pub fn random_graph(random: &mut Random, persons: usize, parts: usize) -> LinkFile {
+    let mut pairs = vec![];
+    for owner in 0..persons as u32 {
+        for target in 0..persons as u32 {
+            if owner != target && random.chance(parts, 10) {
+                pairs.push((owner, target));
+            }
+        }
+    }
+    undated(persons, &pairs)
+}
+
 /// A file with all counts at their limits and four links a person.
 pub fn largest() -> LinkFile {
     let rows = (0..MOST_PERSONS)

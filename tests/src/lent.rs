@@ -6,6 +6,11 @@ use std::fmt::Debug;
 /// Elements before and behind the lent part.
 const ZONE: usize = 64;
 
+/// Cells as they are lent where nothing is said in them: each with a value of its own, so that moved cells are seen too.
+pub fn untouched(cells: usize) -> Vec<u32> {
+    (0..cells as u32).map(|cell| 0xC000_0000 + cell).collect()
+}
+
 /// A lent part between two zones.
 pub struct Lent<T> {
     all: Vec<T>,
@@ -130,7 +135,12 @@ impl Guarded {
 
     /// The file with zeros behind it, 2^32 bytes of them: a length cut to 32 bits would be the file's own.
     pub fn with_vast_tail(file: &[u8]) -> Guarded {
-        let length = file.len() + (1 << 32);
+        Guarded::with_tail(file, 1 << 32)
+    }
+
+    /// The bytes, at an address that suits cells too, with so many zeros behind them.
+    pub fn with_tail(file: &[u8], zeros: usize) -> Guarded {
+        let length = file.len() + zeros;
         let readable = length.div_ceil(PAGE) * PAGE;
         Guarded {
             pages: Pages::holding(file, 0, readable),

@@ -62,6 +62,10 @@ pub struct Listed {
     pub ended: bool,
 }
 
+pub fn listed(count: u64, ended: bool) -> Result<Listed, Refusal> {
+    Ok(Listed { count, ended })
+}
+
 /// The portion of a listing, written to `out` as it has to be. With `started` 0 the bookmark isn't looked at.
 pub fn portion(
     listing: &Result<Vec<Chain>, Refusal>,
@@ -96,6 +100,41 @@ pub fn portion(
         count: count as u64,
         ended: count == left.len(),
     })
+}
+
+/// The cells of a held listing: the seven numbers of the question, the started mark, the last record.
+pub type Held = [u32; 18];
+
+pub fn held_of(question: &Question, started: u32, record: &[u32; 10]) -> Held {
+    let mut held = [0; 18];
+    held[..7].copy_from_slice(&[
+        question.from,
+        question.to,
+        question.hops,
+        question.classes,
+        question.meaning,
+        question.first_day,
+        question.last_day,
+    ]);
+    held[7] = started;
+    held[8..].copy_from_slice(record);
+    held
+}
+
+/// Moves a held listing on as it has to be; `listing` is that of its question. With chains written it is started and
+/// its record is the last one written; otherwise nothing in it changes.
+pub fn moved_on(
+    listing: &Result<Vec<Chain>, Refusal>,
+    held: &mut Held,
+    out: &mut [u32],
+) -> Result<Listed, Refusal> {
+    let listed = portion(listing, held[7], &held[8..], out)?;
+    if listed.count > 0 {
+        let last = 10 * (listed.count as usize - 1);
+        held[7] = 1;
+        held[8..].copy_from_slice(&out[last..last + 10]);
+    }
+    Ok(listed)
 }
 
 /// The first chain in dictionary order, for listings too long to be written down whole. Rows rise, so the first way

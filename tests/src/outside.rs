@@ -36,6 +36,14 @@ extern "C" {
         out: *mut u32,
         out_length: usize,
     ) -> u64;
+    fn kin_held(
+        held: *mut u32,
+        held_length: usize,
+        file: *const u8,
+        file_length: usize,
+        out: *mut u32,
+        out_length: usize,
+    ) -> u64;
 }
 
 /// What stands around a lent file. Not zero, so that a number read beyond the end is seen as wrong.
@@ -195,6 +203,79 @@ fn portion_call(
             out.1,
         )
     }
+}
+
+// The held listing. Where its cells are other than 18 the answer is exactly 2^63: a refusal of number 0 at place 0.
+
+/// Moves a copy of a held listing on. `held` and `out` come back as the library left them; the file has to stay as it came.
+pub fn held(held: &mut [u32], file: &[u8], out: &mut [u32]) -> Result<Listed, Refusal> {
+    let mut lent_held = Lent::new(held, ZONE_CELL);
+    let answer = held_in_place(&mut lent_held, file, out);
+    held.copy_from_slice(lent_held.contents());
+    answer
+}
+
+/// Moves a held listing on in the memory where it lies, call after call.
+pub fn held_in_place(
+    held: &mut Lent<u32>,
+    file: &[u8],
+    out: &mut [u32],
+) -> Result<Listed, Refusal> {
+    let cells = (held.pointer(), held.length());
+    let answer = held_call(cells, file, out);
+    held.assert_zones_as_they_came();
+    answer
+}
+
+/// A held listing of no cells at the null pointer.
+pub fn held_null(file: &[u8], out: &mut [u32]) -> Result<Listed, Refusal> {
+    held_call((std::ptr::null_mut(), 0), file, out)
+}
+
+/// A held listing in pages that may only be read, each of its cells four bytes: writing to it ends the test run.
+pub fn held_guarded(held: &Guarded, file: &[u8], out: &mut [u32]) -> Result<Listed, Refusal> {
+    let cells = (held.pointer() as *mut u32, held.length() / 4);
+    held_call(cells, file, out)
+}
+
+/// A held listing without output cells, at the null pointer.
+pub fn held_null_output(held: &mut [u32], file: &[u8]) -> Result<Listed, Refusal> {
+    let mut lent_held = Lent::new(held, ZONE_CELL);
+    let mut lent_file = Lent::new(file, ZONE_BYTE);
+    let answer = unsafe {
+        kin_held(
+            lent_held.pointer(),
+            lent_held.length(),
+            lent_file.pointer(),
+            lent_file.length(),
+            std::ptr::null_mut(),
+            0,
+        )
+    };
+    lent_file.assert_as_it_came();
+    lent_held.assert_zones_as_they_came();
+    held.copy_from_slice(lent_held.contents());
+    listed_or_refused(answer)
+}
+
+/// The call itself; the held listing is its pointer and its length.
+fn held_call(held: (*mut u32, usize), file: &[u8], out: &mut [u32]) -> Result<Listed, Refusal> {
+    let mut lent_file = Lent::new(file, ZONE_BYTE);
+    let mut lent_out = Lent::new(out, ZONE_CELL);
+    let answer = unsafe {
+        kin_held(
+            held.0,
+            held.1,
+            lent_file.pointer(),
+            lent_file.length(),
+            lent_out.pointer(),
+            lent_out.length(),
+        )
+    };
+    lent_file.assert_as_it_came();
+    lent_out.assert_zones_as_they_came();
+    out.copy_from_slice(lent_out.contents());
+    listed_or_refused(answer)
 }
 
 // Answers. Each of the 64 bits has its place in what an answer is taken apart into, so no stray bit is overlooked.

@@ -9,8 +9,9 @@
 
 use independent::checker::{refused, Refusal, LAST_DAY};
 use independent::faults::{catalogue, with_faults};
-use independent::files::{self, LinkFile};
-use independent::lister::{self, following, listing, record, Chain, Listed, Question};
+use independent::files::{self, random_graph};
+use independent::lent::untouched;
+use independent::lister::{self, following, listed, listing, record, Chain, Listed, Question};
 use independent::outside;
 use independent::questions::{
     first_to_last, numbers_of, question_faults, question_of, random_question, Q,
@@ -94,15 +95,6 @@ impl Asked {
             }
         }
     }
-}
-
-/// Output cells as they are lent: each with a value of its own, so that moved cells are seen too.
-fn untouched(cells: usize) -> Vec<u32> {
-    (0..cells as u32).map(|cell| 0xC000_0000 + cell).collect()
-}
-
-fn listed(count: u64, ended: bool) -> Answer {
-    Ok(Listed { count, ended })
 }
 
 /// The records of the chains, then the cells that stay.
@@ -416,19 +408,6 @@ fn random_questions_over_random_files() {
         }
     }
     assert!(with_chains > 5_000, "{with_chains}");
-}
-
-/// An undated graph in which about `parts` of ten links are there: sparse ones have dead ends and ways that reopen.
-fn random_graph(random: &mut Random, persons: usize, parts: usize) -> LinkFile {
-    let mut pairs = vec![];
-    for owner in 0..persons as u32 {
-        for target in 0..persons as u32 {
-            if owner != target && random.chance(parts, 10) {
-                pairs.push((owner, target));
-            }
-        }
-    }
-    files::undated(persons, &pairs)
 }
 
 #[test]
