@@ -1,13 +1,15 @@
 // Whether a bookmark is the record of a chain, cell by cell.
-use compact::{LINKS, PERSONS, STARTS};
-
+use compact::LINKS;
+use compact::PERSONS;
+use compact::STARTS;
+use question::Question;
 ghost use mathlib.Core.Path.{_≡_};
 ghost use Prim.Native.Nat.{_+_, _≤_, _<_};
 ghost use lib.ListN.{length, getD, drop};
 ghost use lib.Seq.{slice};
 ghost use Rattle.ways.specs.Graph.{among};
 ghost use Rattle.compact.specs.Compact.{graphOf, Compact};
-ghost use Rattle.portion.specs.Bookmark.{runs, zeros, isBookmark};
+ghost use Rattle.portion.specs.Bookmark.{runs, zeros, isBookmark, startFits};
 
 // Whether a link leads from a person to the next.
 fn leads(starts: &[u16; STARTS], targets: &[u16; LINKS], person: u32, next: u32) -> bool
@@ -45,13 +47,7 @@ fn stands(cells: &[u32], first: usize, end: usize, person: u32) -> bool
 }
 
 // Whether the cells from 1 up to `last` run from person to person by links, nobody twice, to the end person.
-fn run(
-    starts: &[u16; STARTS],
-    targets: &[u16; LINKS],
-    cells: &[u32],
-    last: usize,
-    to: u32,
-) -> bool
+fn run(starts: &[u16; STARTS], targets: &[u16; LINKS], cells: &[u32], last: usize, to: u32) -> bool
     requires { ⌜ (Compact (now starts) (now targets)) × (1 ≤ last) × (last < length (now cells)) ⌝ }
     ensures { λ r. ⌜ r ≡ runs (graphOf (now (starts .entry)) (now (targets .entry))) to (slice 1 (last + 1) (now (cells .entry))) ⌝ }
 {
@@ -110,4 +106,28 @@ pub fn is_chain(
         return false;
     }
     blank(cells, last + 1)
+}
+
+// Whether a portion may start here: a fresh start may, and a bookmark that is the record of a chain.
+pub fn fits(
+    starts: &[u16; STARTS],
+    targets: &[u16; LINKS],
+    question: Question,
+    started: u32,
+    bookmark: &[u32],
+) -> bool
+    requires { ⌜ (Compact (now starts) (now targets)) × (question .hops ≤ 8) ⌝ }
+    ensures { λ r. ⌜ r ≡ startFits (graphOf (now (starts .entry)) (now (targets .entry))) question started (now (bookmark .entry)) ⌝ }
+{
+    if started == 0 {
+        return true;
+    }
+    is_chain(
+        starts,
+        targets,
+        question.from,
+        question.to,
+        question.hops,
+        bookmark,
+    )
 }

@@ -13,6 +13,7 @@ mod walk;
 use compact::LINKS;
 use compact::PERSONS;
 use compact::STARTS;
+use walk::Ask;
 use walk::Found;
 use walk::Walk;
 
@@ -53,22 +54,18 @@ pub fn list(
     marks[at] = true;
     let room = out.len() / RECORD;
     let found = walk::go_through(
+        at,
         rows,
         targets,
-        bookmark,
         &mut marks,
-        out,
         &mut barriers,
+        &mut chain,
         &mut trail,
-        chain,
-        Walk {
-            to: to,
-            tight: started,
-            room: room,
-            len: 1,
-            left: hops,
-        },
-        at,
+        bookmark,
+        out,
+        Ask { to: to, room: room },
+        Walk { len: 1, left: hops },
+        started,
         Found {
             count: 0,
             more: 0,
