@@ -23,6 +23,10 @@ use Rattle.distance.specs.declared.Answer as distance-code
 use Rattle.portion.specs.Listing.{recordSize, listingFor, Start, fresh, after as following, startFault, portionFault, portionFor, endedFor, startsAfter}
 use Rattle.portion.specs.Answers as portion
 use Rattle.portion.specs.declared.Answer as portion-code
+use Rattle.ways.specs.Halves.{halvesFit}
+use Rattle.join.specs.Lists as lists
+use Rattle.join.specs.Answers as join
+use Rattle.join.specs.declared.Joined as join-code
 use Rattle.outside.specs.Encoded.{endedNumber}
 
 at-most-more : (a b : ℕ) → a ≤ b → (f : Fault) → AtMost a f → AtMost b f
@@ -105,4 +109,27 @@ module _ {file : List ℕ} {q : Question} {start : Start} {out out′ : List ℕ
     where
       go : (f : Fault) → portion.answerFor f (length (portionFor file q start out)) (endedFor file q start out) ≡ portion.listed count ended → count ≤ length out
       go sound e = let same : length (portionFor file q start out) ≡ count = cc in omega (arith, length-take (roomOf recordSize (length out)) (after (startsAfter start) (listingFor file q)))
+      go (fault r t) e = let z : _≡_ {A = ℕ} 0 1 = cc in absurd (omega arith)
+
+join-number : (file : List ℕ) (q : Question) (working out : List ℕ) → AtMost 18 (lists.joinFault file q working out)
+join-number file q working out =
+    at-most-first 18 (askedFault file q) (unless (leb lists.recordSize (length out)) 16 0 last) (at-most-more 15 18 (omega arith) (askedFault file q) (asked-number file q))
+    (at-most-unless 18 (leb lists.recordSize (length out)) 16 0 last (omega arith) (at-most-unless 18 (halvesFit lists.recordSize (length working) (lists.halvesFor file q)) 18 0 sound (omega arith) tt))
+  where
+    last : Fault
+    last = unless (halvesFit lists.recordSize (length working) (lists.halvesFor file q)) 18 0 sound
+
+module _ {file : List ℕ} {q : Question} {working working′ out out′ : List ℕ} {answer : join-code.Joined} (p : join.Joins file q working working′ out out′ answer) where
+  pub join-refused : {number place : ℕ} → answer ≡ join-code.the-variants.Refused number place → number ≤ 18
+  join-refused {number} {place} e = go (lists.joinFault file q working out) (length (lists.firstOnes (lists.chainsFor file q) out)) (lists.allFit (lists.chainsFor file q) out) (join-number file q working out) (sym (p .answers) ∙ ap join.answerSaid e)
+    where
+      go : (f : Fault) (n : ℕ) (b : Bool) → AtMost 18 f → join.answerFor f n b ≡ join.refused number place → number ≤ 18
+      go sound n b i e = let z : _≡_ {A = ℕ} 0 1 = cc in absurd (omega arith)
+      go (fault r t) n b i e = let same : r ≡ number = cc in omega arith
+
+  pub join-few : {count : ℕ} {ended : Bool} → answer ≡ join-code.the-variants.Listed count ended → count ≤ length out
+  join-few {count} {ended} e = go (lists.joinFault file q working out) (sym (p .answers) ∙ ap join.answerSaid e)
+    where
+      go : (f : Fault) → join.answerFor f (length (lists.firstOnes (lists.chainsFor file q) out)) (lists.allFit (lists.chainsFor file q) out) ≡ join.listed count ended → count ≤ length out
+      go sound e = let same : length (lists.firstOnes (lists.chainsFor file q) out) ≡ count = cc in omega (arith, length-take (roomOf lists.recordSize (length out)) (lists.chainsFor file q))
       go (fault r t) e = let z : _≡_ {A = ℕ} 0 1 = cc in absurd (omega arith)

@@ -9,6 +9,8 @@ use Rattle.question.specs.declared.Question.{Question}
 use Rattle.distance.specs.Answers as distance
 use Rattle.portion.specs.Answers as portion
 use Rattle.portion.specs.Listing.{Start, portionFault, portionFor, endedFor}
+use Rattle.join.specs.Answers as join
+use Rattle.join.specs.Lists.{halvesFor, chainsFor, joinFault, firstOnes, allFit}
 
 -- the seven numbers of a question, in the customer's order
 abbrev pub asking : ℕ → ℕ → ℕ → ℕ → ℕ → ℕ → ℕ → Question
@@ -45,3 +47,13 @@ listedNumber (portion.refused number place) = refusalNumber number place
 pub record PortionNumber (file : List ℕ) (q : Question) (start : Start) (out out′ : List ℕ) (answer : ℕ) : Type 0 where
   pub answers : answer ≡ listedNumber (portion.answerFor (portionFault file q start out) (length (portionFor file q start out)) (endedFor file q start out))
   pub cells : out′ ≡ portion.cellsFor (portionFault file q start out) (portionFor file q start out) out
+
+-- the join's answer in the same numbers, and the working cells and the output at exit
+abbrev pub joinedNumber : join.Answer → ℕ
+joinedNumber (join.listed count ended) = count + endedNumber ended * 2 ^ 62
+joinedNumber (join.refused number place) = refusalNumber number place
+
+pub record JoinNumber (file : List ℕ) (q : Question) (working working′ out out′ : List ℕ) (answer : ℕ) : Type 0 where
+  pub answers : answer ≡ joinedNumber (join.answerFor (joinFault file q working out) (length (firstOnes (chainsFor file q) out)) (allFit (chainsFor file q) out))
+  pub shelf : working′ ≡ join.cellsFor (joinFault file q working out) (halvesFor file q) working
+  pub cells : out′ ≡ join.cellsFor (joinFault file q working out) (firstOnes (chainsFor file q) out) out

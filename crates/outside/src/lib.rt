@@ -9,7 +9,7 @@ ghost use lib.ListN.{length};
 ghost use Rattle.linkfile.specs.Checked.{checked};
 ghost use Rattle.linkfile.specs.Rows.{rowView};
 ghost use Rattle.portion.specs.Listing.{startSaid};
-ghost use Rattle.outside.specs.Encoded.{verdictNumber, fewestNumber, PortionNumber, asking};
+ghost use Rattle.outside.specs.Encoded.{verdictNumber, fewestNumber, PortionNumber, JoinNumber, asking};
 
 // Passed: n + m * 2^16 + f * 2^32.
 #[no_mangle]
@@ -98,6 +98,40 @@ pub extern "C" fn kin_portion(
         portion::Answer::Listed { count, ended } => count as u64
             + ended as u64 * 0x4000_0000_0000_0000,
         portion::Answer::Refused { number, place } => {
+            0x8000_0000_0000_0000 + number as u64 * 0x1_0000_0000 + place as u64
+        }
+    }
+}
+
+// Listed: count + ended * 2^62. The half chains are written to `working`.
+#[no_mangle]
+pub extern "C" fn kin_join(
+    file: &[u8],
+    from: u32,
+    to: u32,
+    hops: u32,
+    classes: u32,
+    meaning: u32,
+    first: u32,
+    last: u32,
+    working: &mut [u32],
+    out: &mut [u32],
+) -> u64
+    ensures { λ r. ⌜ JoinNumber (now (file .entry)) (asking from to hops classes meaning first last) (now (working .entry)) (now (working .exit)) (now (out .entry)) (now (out .exit)) r ⌝ }
+{
+    let question = Question {
+        from,
+        to,
+        hops,
+        classes,
+        meaning,
+        first,
+        last,
+    };
+    match join::join(file, question, working, out) {
+        join::Joined::Listed { count, ended } => count as u64
+            + ended as u64 * 0x4000_0000_0000_0000,
+        join::Joined::Refused { number, place } => {
             0x8000_0000_0000_0000 + number as u64 * 0x1_0000_0000 + place as u64
         }
     }
