@@ -176,7 +176,7 @@ int main() {
     row("all of 12 linked, 8 hops", all_linked(12), 8, 8000, 800000);
     row("all of 64 linked, 4 hops", all_linked(64), 4, 8000, 300000);
     row("40 persons, 12 links each, 6 hops", drawn(40, 12, 1), 6, 8000, 200000);
-    row("32 persons, 8 links each, 8 hops", drawn(32, 8, 2), 8, 20000, 400000);
+    row("32 persons, 8 links each, 8 hops", drawn(32, 8, 2), 8, 20000, 800000);
     row("128 persons, 16 links each, 6 hops", drawn(128, 16, 3), 6, 20000, 400000);
     row("1,024 persons, 4 links each, 8 hops", drawn(1024, 4, 4), 8, 4000, 10000);
 }
