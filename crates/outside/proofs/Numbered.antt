@@ -23,6 +23,9 @@ use Rattle.distance.specs.declared.Answer as distance-code
 use Rattle.portion.specs.Listing.{recordSize, listingFor, Start, fresh, after as following, startFault, portionFault, portionFor, endedFor, startsAfter}
 use Rattle.portion.specs.Answers as portion
 use Rattle.portion.specs.declared.Answer as portion-code
+use Rattle.ways.specs.Halves.{halvesFit}
+use Rattle.join.specs.Lists as lists
+use Rattle.join.specs.Answers.{Joins}
 use Rattle.outside.specs.Encoded.{Small, endedNumber}
 
 at-most-more : (a b : ℕ) → a ≤ b → (f : Fault) → AtMost a f → AtMost b f
@@ -98,4 +101,20 @@ portion-small {file} {q} {start} {out} p h = subst Small (sym (p .answers)) (go 
   where
     go : (f : Fault) → AtMost 17 f → Small (portion.answerFor f (length (portionFor file q start out)) (endedFor file q start out))
     go sound i = omega (arith, length-take (roomOf recordSize (length out)) (after (startsAfter start) (listingFor file q)))
+    go (fault r t) i = omega arith
+
+-- and so has the join's
+join-number : (file : List ℕ) (q : Question) (working out : List ℕ) → AtMost 18 (lists.joinFault file q working out)
+join-number file q working out =
+    at-most-first 18 (askedFault file q) (unless (leb recordSize (length out)) 16 0 last) (at-most-more 15 18 (omega arith) (askedFault file q) (asked-number file q))
+    (at-most-unless 18 (leb recordSize (length out)) 16 0 last (omega arith) (at-most-unless 18 (halvesFit recordSize (length working) (lists.halvesFor file q)) 18 0 sound (omega arith) tt))
+  where
+    last : Fault
+    last = unless (halvesFit recordSize (length working) (lists.halvesFor file q)) 18 0 sound
+
+pub join-small : {file : List ℕ} {q : Question} {working working′ out out′ : List ℕ} {answer : portion-code.Answer} → Joins file q working working′ out out′ answer → length out < 2 ^ 62 → Small (portion.answerSaid answer)
+join-small {file} {q} {working} {out = out} p h = subst Small (sym (p .answers)) (go (lists.joinFault file q working out) (join-number file q working out))
+  where
+    go : (f : Fault) → AtMost 18 f → Small (portion.answerFor f (length (lists.firstOnes (lists.chainsFor file q) out)) (lists.allFit (lists.chainsFor file q) out))
+    go sound i = omega (arith, length-take (roomOf recordSize (length out)) (lists.chainsFor file q))
     go (fault r t) i = omega arith

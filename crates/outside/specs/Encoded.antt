@@ -9,6 +9,7 @@ use Rattle.question.specs.declared.Question.{Question}
 use Rattle.distance.specs.Answers as distance
 use Rattle.portion.specs.Answers as portion
 use Rattle.portion.specs.Listing.{Start, portionFault, portionFor, endedFor}
+use Rattle.join.specs.Lists.{halvesFor, chainsFor, joinFault, firstOnes, allFit}
 
 -- the seven numbers of a question, in the customer's order
 abbrev pub asking : ℕ → ℕ → ℕ → ℕ → ℕ → ℕ → ℕ → Question
@@ -50,3 +51,9 @@ Small (portion.refused number place) = number ≤ 18
 pub record PortionNumber (file : List ℕ) (q : Question) (start : Start) (out out′ : List ℕ) (answer : ℕ) : Type 0 where
   pub answers : answer ≡ listedNumber (portion.answerFor (portionFault file q start out) (length (portionFor file q start out)) (endedFor file q start out))
   pub cells : out′ ≡ portion.cellsFor (portionFault file q start out) (portionFor file q start out) out
+
+-- the join's answer as a number, and the working cells and the output at exit
+pub record JoinNumber (file : List ℕ) (q : Question) (working working′ out out′ : List ℕ) (answer : ℕ) : Type 0 where
+  pub answers : answer ≡ listedNumber (portion.answerFor (joinFault file q working out) (length (firstOnes (chainsFor file q) out)) (allFit (chainsFor file q) out))
+  pub shelf : working′ ≡ portion.cellsFor (joinFault file q working out) (halvesFor file q) working
+  pub cells : out′ ≡ portion.cellsFor (joinFault file q working out) (firstOnes (chainsFor file q) out) out

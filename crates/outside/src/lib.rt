@@ -11,7 +11,7 @@ ghost use Rattle.linkfile.specs.Checked.{checked};
 ghost use Rattle.linkfile.specs.Rows.{rowView};
 ghost use Rattle.portion.specs.Listing.{startSaid};
 ghost use Rattle.portion.specs.Answers.{answerSaid};
-ghost use Rattle.outside.specs.Encoded.{verdictNumber, fewestNumber, Small, listedNumber, PortionNumber, asking};
+ghost use Rattle.outside.specs.Encoded.{verdictNumber, fewestNumber, Small, listedNumber, PortionNumber, JoinNumber, asking};
 ghost use Rattle.outside.specs.HeldCells.{heldOf, heldCells, HeldNumber};
 use held::Held;
 
@@ -112,6 +112,34 @@ pub extern "C" fn kin_portion(
         last,
     };
     listed_number(portion::portion(file, question, started, bookmark, out))
+}
+
+// Half chains to the working cells, chains to the output. Answers as kin_portion.
+#[no_mangle]
+pub extern "C" fn kin_join(
+    file: &[u8],
+    from: u32,
+    to: u32,
+    hops: u32,
+    classes: u32,
+    meaning: u32,
+    first: u32,
+    last: u32,
+    working: &mut [u32],
+    out: &mut [u32],
+) -> u64
+    ensures { λ r. ⌜ JoinNumber (now (file .entry)) (asking from to hops classes meaning first last) (now (working .entry)) (now (working .exit)) (now (out .entry)) (now (out .exit)) r ⌝ }
+{
+    let question = Question {
+        from,
+        to,
+        hops,
+        classes,
+        meaning,
+        first,
+        last,
+    };
+    listed_number(join::join(file, question, working, out))
 }
 
 // A held listing in cells: the seven numbers of its question, started, the record.
