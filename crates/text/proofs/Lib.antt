@@ -1,0 +1,4 @@
+pub mod Printing
+pub mod Spelling
+pub mod Counting
+pub mod Lining
