@@ -137,6 +137,66 @@ pub fn moved_on(
     Ok(listed)
 }
 
+/// Every chain, shorter ones first, then in dictionary order.
+pub fn listing_by_hops(file: &[u8], question: &Question) -> Result<Vec<Chain>, Refusal> {
+    let mut chains = listing(file, question)?;
+    by_hops(&mut chains);
+    Ok(chains)
+}
+
+/// Every half chain, shorter ones first, then in dictionary order: from each person but From all ways to To of at most
+/// half the hops are walked, and those that visit From are left out.
+pub fn half_chains(file: &[u8], question: &Question) -> Result<Vec<Chain>, Refusal> {
+    let counts = checker::verdict(file)?;
+    ends_below_n(question, counts.n)?;
+    question_refusals(question)?;
+    let hops = admitted_hops(file, counts, question);
+    let half = Question {
+        hops: question.hops / 2,
+        ..*question
+    };
+    let mut halves = vec![];
+    for start in 0..counts.n {
+        walk(&hops, &half, &mut vec![start], &mut halves);
+    }
+    halves.retain(|half| !half.contains(&question.from));
+    by_hops(&mut halves);
+    Ok(halves)
+}
+
+fn by_hops(sequences: &mut [Chain]) {
+    sequences.sort_by(|one, other| (one.len(), one).cmp(&(other.len(), other)));
+}
+
+/// The join of a listing by hops and its half chains, written to `working` and `out` as it has to be.
+pub fn join(
+    by_hops: &Result<Vec<Chain>, Refusal>,
+    halves: &Result<Vec<Chain>, Refusal>,
+    working: &mut [u32],
+    out: &mut [u32],
+) -> Result<Listed, Refusal> {
+    let (chains, halves) = match (by_hops, halves) {
+        (Ok(chains), Ok(halves)) => (chains, halves),
+        (Err(refusal), _) | (_, Err(refusal)) => return Err(*refusal),
+    };
+    if out.len() < 10 {
+        return refused(16, 0);
+    }
+    if working.len() / 10 < halves.len() {
+        return refused(18, 0);
+    }
+    let count = chains.len().min(out.len() / 10);
+    write_records(halves, working);
+    write_records(&chains[..count], out);
+    listed(count as u64, count == chains.len())
+}
+
+fn write_records(chains: &[Chain], cells: &mut [u32]) {
+    for (i, chain) in chains.iter().enumerate() {
+        cells[10 * i..10 * i + 10].copy_from_slice(&record(chain));
+    }
+}
+
 /// The first chain in dictionary order, for listings too long to be written down whole. Rows rise, so the first way
 /// met is the first in order.
 pub fn first(file: &[u8], question: &Question) -> Option<Chain> {

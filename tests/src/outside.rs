@@ -44,6 +44,21 @@ extern "C" {
         out: *mut u32,
         out_length: usize,
     ) -> u64;
+    fn kin_join(
+        file: *const u8,
+        file_length: usize,
+        from: u32,
+        to: u32,
+        hops: u32,
+        classes: u32,
+        meaning: u32,
+        first_day: u32,
+        last_day: u32,
+        working: *mut u32,
+        working_length: usize,
+        out: *mut u32,
+        out_length: usize,
+    ) -> u64;
 }
 
 /// What stands around a lent file. Not zero, so that a number read beyond the end is seen as wrong.
@@ -275,6 +290,85 @@ fn held_call(held: (*mut u32, usize), file: &[u8], out: &mut [u32]) -> Result<Li
     lent_file.assert_as_it_came();
     lent_out.assert_zones_as_they_came();
     out.copy_from_slice(lent_out.contents());
+    listed_or_refused(answer)
+}
+
+// The join.
+
+/// Lists by joining half chains. `working` and `out` come back as the library left them; the file has to stay as it came.
+pub fn join(
+    file: &[u8],
+    question: &Question,
+    working: &mut [u32],
+    out: &mut [u32],
+) -> Result<Listed, Refusal> {
+    let mut lent_working = Lent::new(working, ZONE_CELL);
+    let mut lent_out = Lent::new(out, ZONE_CELL);
+    let answer = join_call(
+        file,
+        question,
+        (lent_working.pointer(), lent_working.length()),
+        (lent_out.pointer(), lent_out.length()),
+    );
+    lent_working.assert_zones_as_they_came();
+    lent_out.assert_zones_as_they_came();
+    working.copy_from_slice(lent_working.contents());
+    out.copy_from_slice(lent_out.contents());
+    answer
+}
+
+/// The join with no working cells, at the null pointer.
+pub fn join_null_working(
+    file: &[u8],
+    question: &Question,
+    out: &mut [u32],
+) -> Result<Listed, Refusal> {
+    let mut lent = Lent::new(out, ZONE_CELL);
+    let cells = (lent.pointer(), lent.length());
+    let answer = join_call(file, question, (std::ptr::null_mut(), 0), cells);
+    lent.assert_as_it_came();
+    answer
+}
+
+/// The join with no output cells, at the null pointer.
+pub fn join_null_output(
+    file: &[u8],
+    question: &Question,
+    working: &mut [u32],
+) -> Result<Listed, Refusal> {
+    let mut lent = Lent::new(working, ZONE_CELL);
+    let cells = (lent.pointer(), lent.length());
+    let answer = join_call(file, question, cells, (std::ptr::null_mut(), 0));
+    lent.assert_as_it_came();
+    answer
+}
+
+/// The call itself; working cells and output are each a pointer and a length.
+fn join_call(
+    file: &[u8],
+    q: &Question,
+    working: (*mut u32, usize),
+    out: (*mut u32, usize),
+) -> Result<Listed, Refusal> {
+    let mut lent_file = Lent::new(file, ZONE_BYTE);
+    let answer = unsafe {
+        kin_join(
+            lent_file.pointer(),
+            lent_file.length(),
+            q.from,
+            q.to,
+            q.hops,
+            q.classes,
+            q.meaning,
+            q.first_day,
+            q.last_day,
+            working.0,
+            working.1,
+            out.0,
+            out.1,
+        )
+    };
+    lent_file.assert_as_it_came();
     listed_or_refused(answer)
 }
 

@@ -4,7 +4,7 @@
 
 use independent::checker::{refused, LAST_DAY};
 use independent::files;
-use independent::lister::{fewest, listing, record, Question};
+use independent::lister::{fewest, half_chains, listing, listing_by_hops, record, Chain, Question};
 use independent::questions::Q;
 
 fn lists(question: Question, chains: &[&[u32]]) {
@@ -111,4 +111,40 @@ fn records_have_ten_cells() {
     assert_eq!(record(&[0, 5]), [1, 0, 5, 0, 0, 0, 0, 0, 0, 0]);
     let longest: Vec<u32> = (1..10).collect();
     assert_eq!(record(&longest), [8, 1, 2, 3, 4, 5, 6, 7, 8, 9]);
+}
+
+#[test]
+fn the_stated_half_chains_of_the_six_person_file() {
+    let file = files::six_persons().bytes();
+    let halves = |hops| half_chains(&file, &Question { hops, ..Q }).expect("the question passes");
+    let stated: [&[u32]; 5] = [&[5], &[3, 5], &[4, 5], &[1, 3, 5], &[2, 3, 5]];
+    assert_eq!(halves(1), stated[..1]);
+    assert_eq!(halves(2), stated[..3]);
+    assert_eq!(halves(3), stated[..3]);
+    assert_eq!(halves(4), stated);
+    assert_eq!(halves(5), stated);
+}
+
+/// Every chain is met at one split only: the left half of its hops, rounded up, and a half chain from there.
+#[test]
+fn half_chains_join_to_the_listing_by_hops() {
+    let file = files::six_persons().bytes();
+    for hops in 1..=8 {
+        let question = Question { hops, ..Q };
+        let chains = listing_by_hops(&file, &question).expect("the question passes");
+        let halves = half_chains(&file, &question).expect("the question passes");
+        for chain in &chains {
+            let middle = chain.len() / 2;
+            let met: Vec<&Chain> = halves
+                .iter()
+                .filter(|half| half[..] == chain[middle..])
+                .collect();
+            assert_eq!(met.len(), 1, "{chain:?}");
+        }
+    }
+    let by_hops = listing_by_hops(&file, &Q).expect("the question passes");
+    assert_eq!(
+        by_hops,
+        [vec![0, 1, 3, 5], vec![0, 2, 3, 5], vec![0, 2, 1, 3, 5]]
+    );
 }

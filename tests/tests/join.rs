@@ -1,0 +1,628 @@
+//! The join, through `kin_join`, against half chains and a listing by hops found by brute force: answer, every working
+//! cell and every output cell.
+//!
+//! Covers: the cases stated for the six-person file; every question over it; hops 1 to 8; working cells exactly enough,
+//! one short, far too few and more than enough; rooms short of the listing, exact and beyond it; no chain at all; half
+//! chains that nobody reaches or that would visit From; random files and random graphs, also with links both ways; the
+//! same chains as the portion hands over; all links between 64 persons; outputs and working cells of every length, also
+//! none at the null pointer; every refusal, their order, and 16 before 18. Each cell comes with a value of its own, and
+//! the file and the memory beside what is lent have to stay as they came in every call.
+
+use independent::checker::{refused, Refusal};
+use independent::faults::{catalogue, with_faults};
+use independent::files::{self, random_graph};
+use independent::lent::untouched;
+use independent::lister::{
+    self, half_chains, listed, listing_by_hops, record, Chain, Listed, Question,
+};
+use independent::outside;
+use independent::questions::{
+    first_to_last, numbers_of, question_faults, question_of, random_question, Q,
+};
+use independent::random::Random;
+
+type Answer = Result<Listed, Refusal>;
+
+/// A file and a question, with its listing by hops and its half chains by brute force.
+struct Asked {
+    file: Vec<u8>,
+    question: Question,
+    by_hops: Result<Vec<Chain>, Refusal>,
+    halves: Result<Vec<Chain>, Refusal>,
+}
+
+/// An answer, the working cells and the output cells.
+type Joined = (Answer, Vec<u32>, Vec<u32>);
+
+impl Asked {
+    fn new(file: Vec<u8>, question: Question) -> Asked {
+        Asked {
+            by_hops: listing_by_hops(&file, &question),
+            halves: half_chains(&file, &question),
+            file,
+            question,
+        }
+    }
+
+    fn six_persons(question: Question) -> Asked {
+        Asked::new(files::six_persons().bytes(), question)
+    }
+
+    fn random(random: &mut Random, most_persons: usize) -> Asked {
+        loop {
+            let file = files::random_file(random, most_persons);
+            if file.persons() > 1 {
+                let question = random_question(random, file.persons());
+                return Asked::new(file.bytes(), question);
+            }
+        }
+    }
+
+    fn chains(&self) -> &[Chain] {
+        self.by_hops.as_ref().expect("the question passes")
+    }
+
+    /// How many working cells are just enough.
+    fn enough(&self) -> usize {
+        10 * self.halves.as_ref().expect("the question passes").len()
+    }
+
+    /// Asks the library and holds answer and cells against the lister's; gives all three back.
+    fn join(&self, working_cells: usize, cells: usize) -> Joined {
+        let (mut working, mut out) = (untouched(working_cells), untouched(cells));
+        let (mut right_working, mut right_out) = (working.clone(), out.clone());
+        let told = outside::join(&self.file, &self.question, &mut working, &mut out);
+        let right = lister::join(
+            &self.by_hops,
+            &self.halves,
+            &mut right_working,
+            &mut right_out,
+        );
+        let asked = format!(
+            "{:?}, {working_cells} working cells, {cells} cells of {:?}",
+            self.question, self.file
+        );
+        assert_eq!(told, right, "{asked}");
+        assert!(
+            working == right_working,
+            "{asked}:\ntold {working:?}\nright {right_working:?}"
+        );
+        assert!(
+            out == right_out,
+            "{asked}:\ntold {out:?}\nright {right_out:?}"
+        );
+        (told, working, out)
+    }
+
+    /// Working cells around what is enough, and rooms around the count of chains.
+    fn around_the_bounds(&self) {
+        let enough = self.enough();
+        let all = 10 * self.chains().len();
+        for cells in [10, 20, 29, all, all + 9, all + 10, all + 25] {
+            for working in [enough, enough + 1, enough + 9, enough + 10, enough + 35] {
+                let answer = self.join(working, cells).0;
+                assert_eq!(answer.is_ok(), cells >= 10);
+            }
+            for working in [0, 9, enough / 2, enough - 10, enough - 9, enough - 1] {
+                let told = self.join(working, cells);
+                let number = if cells < 10 { 16 } else { 18 };
+                assert_eq!(told, as_they_came(number, 0, working, cells));
+            }
+        }
+    }
+
+    /// The chains handed over with room for all of them.
+    fn joined_chains(&self) -> Vec<Vec<u32>> {
+        let (answer, _, out) = self.join(self.enough(), 10 * self.chains().len() + 10);
+        let count = answer.expect("enough of everything").count as usize;
+        out.chunks(10).take(count).map(<[u32]>::to_vec).collect()
+    }
+
+    /// A call that is refused and leaves all cells as they came.
+    fn refuses(&self, working: usize, cells: usize, number: u32, place: u32) {
+        let told = self.join(working, cells);
+        assert_eq!(told, as_they_came(number, place, working, cells));
+    }
+}
+
+fn as_they_came(number: u32, place: u32, working: usize, cells: usize) -> Joined {
+    (refused(number, place), untouched(working), untouched(cells))
+}
+
+/// The records of the sequences, then the cells that stay.
+fn cells_of(sequences: &[&[u32]], cells: usize) -> Vec<u32> {
+    let mut written = untouched(cells);
+    for (i, sequence) in sequences.iter().enumerate() {
+        written[10 * i..10 * i + 10].copy_from_slice(&record(sequence));
+    }
+    written
+}
+
+// The six-person file.
+
+const A: &[u32] = &[0, 1, 3, 5];
+const B: &[u32] = &[0, 2, 1, 3, 5];
+const C: &[u32] = &[0, 2, 3, 5];
+
+/// The half chains of P12.
+const HALVES: [&[u32]; 5] = [&[5], &[3, 5], &[4, 5], &[1, 3, 5], &[2, 3, 5]];
+
+#[test]
+fn p12_fifty_working_cells_do() {
+    let asked = Asked::six_persons(Q);
+    for working in [50, 59, 60, 85] {
+        let told = asked.join(working, 45);
+        let right = (
+            listed(3, true),
+            cells_of(&HALVES, working),
+            cells_of(&[A, C, B], 45),
+        );
+        assert_eq!(told, right);
+    }
+}
+
+#[test]
+fn p12_forty_nine_give_eighteen() {
+    let asked = Asked::six_persons(Q);
+    for working in 0..50 {
+        asked.refuses(working, 45, 18, 0);
+        asked.refuses(working, 10, 18, 0);
+        asked.refuses(working, 9, 16, 0);
+    }
+}
+
+#[test]
+fn the_six_person_file_by_its_hops() {
+    let cases: [(u32, &[&[u32]], &[&[u32]]); 8] = [
+        (1, &HALVES[..1], &[]),
+        (2, &HALVES[..3], &[]),
+        (3, &HALVES[..3], &[A, C]),
+        (4, &HALVES, &[A, C, B]),
+        (5, &HALVES, &[A, C, B]),
+        // Halves of three hops: (2 1 3 5) is the only one that doesn't visit From or 5 twice.
+        (
+            6,
+            &[
+                HALVES[0],
+                HALVES[1],
+                HALVES[2],
+                HALVES[3],
+                HALVES[4],
+                &[2, 1, 3, 5],
+            ],
+            &[A, C, B],
+        ),
+        (
+            7,
+            &[
+                HALVES[0],
+                HALVES[1],
+                HALVES[2],
+                HALVES[3],
+                HALVES[4],
+                &[2, 1, 3, 5],
+            ],
+            &[A, C, B],
+        ),
+        (
+            8,
+            &[
+                HALVES[0],
+                HALVES[1],
+                HALVES[2],
+                HALVES[3],
+                HALVES[4],
+                &[2, 1, 3, 5],
+            ],
+            &[A, C, B],
+        ),
+    ];
+    for (hops, halves, chains) in cases {
+        let asked = Asked::six_persons(Question { hops, ..Q });
+        let (working, cells) = (10 * halves.len(), 35);
+        let right = (
+            listed(chains.len() as u64, true),
+            cells_of(halves, working),
+            cells_of(chains, cells),
+        );
+        assert_eq!(asked.join(working, cells), right, "{hops} hops");
+        asked.refuses(working - 1, cells, 18, 0);
+    }
+}
+
+#[test]
+fn rooms_short_of_the_listing() {
+    let asked = Asked::six_persons(Q);
+    for (cells, chains, ended) in [
+        (10, &[A][..], false),
+        (19, &[A], false),
+        (20, &[A, C], false),
+        (29, &[A, C], false),
+        (30, &[A, C, B], true),
+        (400, &[A, C, B], true),
+    ] {
+        let right = (
+            listed(chains.len() as u64, ended),
+            cells_of(&HALVES, 50),
+            cells_of(chains, cells),
+        );
+        assert_eq!(asked.join(50, cells), right);
+    }
+}
+
+#[test]
+fn every_question_over_the_six_person_file() {
+    for from in 0..6 {
+        for to in 0..6 {
+            for hops in 0..=9 {
+                for (classes, meaning) in [(15, 1), (15, 2), (1, 1), (7, 2)] {
+                    let asked = Asked::six_persons(Question {
+                        from,
+                        to,
+                        hops,
+                        classes,
+                        meaning,
+                        ..Q
+                    });
+                    if asked.by_hops.is_ok() {
+                        asked.around_the_bounds();
+                    } else {
+                        let _ = asked.join(100, 100);
+                    }
+                }
+            }
+        }
+    }
+}
+
+// Small graphs.
+
+#[test]
+fn half_chains_are_written_though_there_is_no_chain() {
+    // Nobody can leave 0, and 1 is reached from 2 and 3 only.
+    let file = files::undated(5, &[(1, 4), (2, 1), (3, 1), (3, 2)]).bytes();
+    let halves: [&[u32]; 5] = [&[4], &[1, 4], &[2, 1, 4], &[3, 1, 4], &[3, 2, 1, 4]];
+    for (hops, count) in [
+        (1, 1),
+        (2, 2),
+        (3, 2),
+        (4, 4),
+        (5, 4),
+        (6, 5),
+        (7, 5),
+        (8, 5),
+    ] {
+        let asked = Asked::new(file.clone(), first_to_last(5, hops));
+        let told = asked.join(60, 25);
+        let right = (
+            listed(0, true),
+            cells_of(&halves[..count], 60),
+            untouched(25),
+        );
+        assert_eq!(told, right, "{hops} hops");
+    }
+}
+
+#[test]
+fn no_half_chain_visits_from() {
+    // From 2 to 4: 0 and 1 reach 4 over 2 only, 3 by itself.
+    let file = files::undated(5, &[(0, 2), (1, 0), (2, 3), (2, 4), (3, 2), (3, 4)]).bytes();
+    for hops in 1..=8 {
+        let question = Question {
+            from: 2,
+            to: 4,
+            hops,
+            ..Q
+        };
+        let asked = Asked::new(file.clone(), question);
+        let halves: &[&[u32]] = if hops == 1 { &[&[4]] } else { &[&[4], &[3, 4]] };
+        let chains: &[&[u32]] = if hops == 1 {
+            &[&[2, 4]]
+        } else {
+            &[&[2, 4], &[2, 3, 4]]
+        };
+        let right = (
+            listed(chains.len() as u64, true),
+            cells_of(halves, 40),
+            cells_of(chains, 40),
+        );
+        assert_eq!(asked.join(40, 40), right, "{hops} hops");
+    }
+}
+
+#[test]
+fn paths_of_every_number_of_hops() {
+    for hops in 1..=8 {
+        let persons = hops as usize + 1;
+        let pairs: Vec<(u32, u32)> = (0..hops).map(|person| (person, person + 1)).collect();
+        let file = files::undated(persons, &pairs).bytes();
+        let chain: Vec<u32> = (0..=hops).collect();
+        let asked = Asked::new(file.clone(), first_to_last(persons, hops));
+        assert_eq!(asked.chains(), [chain]);
+        assert_eq!(asked.enough(), 10 * (hops as usize / 2 + 1));
+        asked.around_the_bounds();
+        if hops > 1 {
+            let asked = Asked::new(file, first_to_last(persons, hops - 1));
+            assert!(asked.chains().is_empty());
+            asked.around_the_bounds();
+        }
+    }
+}
+
+#[test]
+fn halves_that_share_more_than_the_middle() {
+    // Left (0 1 2 3) and right (3 1 5) share 1, left (0 2 1 3) and right (3 2 5) share 2.
+    let pairs = [
+        (0, 1),
+        (0, 2),
+        (1, 2),
+        (2, 1),
+        (1, 3),
+        (2, 3),
+        (3, 1),
+        (3, 2),
+        (1, 5),
+        (2, 5),
+        (3, 4),
+        (4, 5),
+    ];
+    let file = files::undated(6, &pairs).bytes();
+    for hops in 1..=8 {
+        Asked::new(file.clone(), first_to_last(6, hops)).around_the_bounds();
+    }
+}
+
+// Random files.
+
+#[test]
+fn random_questions_over_random_files() {
+    let mut random = Random::of_test("random_questions_over_random_files");
+    let (mut with_chains, mut by_hops) = (0, [0; 9]);
+    for _ in 0..8_000 {
+        let asked = Asked::random(&mut random, 7);
+        with_chains += usize::from(asked.chains().len() > 1);
+        for chain in asked.chains() {
+            by_hops[chain.len() - 1] += 1;
+        }
+        let spare = random.below(30);
+        let cells = random.between(10, 10 * asked.chains().len() + 25);
+        let _ = asked.join(asked.enough() + spare, cells);
+        asked.refuses(asked.enough() - 1, cells, 18, 0);
+    }
+    assert!(with_chains > 300, "{with_chains}");
+    assert!(by_hops[1..7].iter().all(|&count| count > 50), "{by_hops:?}");
+}
+
+#[test]
+fn random_graphs_around_the_bounds() {
+    let mut random = Random::of_test("random_graphs_around_the_bounds");
+    for round in 0..3_000 {
+        let persons = random.between(3, 9);
+        let parts = random.between(1, 5);
+        let file = random_graph(&mut random, persons, parts).bytes();
+        Asked::new(file, first_to_last(persons, 1 + round % 8)).around_the_bounds();
+    }
+}
+
+#[test]
+fn two_way_families() {
+    let mut random = Random::of_test("two_way_families");
+    for round in 0..2_000 {
+        let persons = random.between(5, 11);
+        let mut pairs = vec![];
+        for _ in 0..random.between(persons, 2 * persons) {
+            let (one, other) = (random.below(persons) as u32, random.below(persons) as u32);
+            if one != other {
+                pairs.extend([(one, other), (other, one)]);
+            }
+        }
+        pairs.sort();
+        pairs.dedup();
+        let file = files::undated(persons, &pairs).bytes();
+        Asked::new(file, first_to_last(persons, 1 + round % 8)).around_the_bounds();
+    }
+}
+
+#[test]
+fn from_and_to_anywhere() {
+    let mut random = Random::of_test("from_and_to_anywhere");
+    for _ in 0..3_000 {
+        let persons = random.between(3, 8);
+        let parts = random.between(2, 5);
+        let file = random_graph(&mut random, persons, parts).bytes();
+        let mut question = random_question(&mut random, persons);
+        question.classes = 15;
+        Asked::new(file, question).around_the_bounds();
+    }
+}
+
+#[test]
+fn the_chains_of_the_portion() {
+    let mut random = Random::of_test("the_chains_of_the_portion");
+    let mut longest = 0;
+    for round in 0..2_000 {
+        let persons = random.between(4, 8);
+        let parts = random.between(2, 9);
+        let file = random_graph(&mut random, persons, parts).bytes();
+        let asked = Asked::new(file, first_to_last(persons, 1 + round % 8));
+        let count = asked.chains().len();
+        longest = longest.max(count);
+        let mut out = untouched(10 * count + 10);
+        let told = outside::portion(&asked.file, &asked.question, 0, &[], &mut out);
+        assert_eq!(told, listed(count as u64, true));
+        let mut handed_over: Vec<Vec<u32>> =
+            out.chunks(10).take(count).map(<[u32]>::to_vec).collect();
+        // The record starts with the hops, then come the persons: its own order is the order by hops.
+        handed_over.sort();
+        assert_eq!(asked.joined_chains(), handed_over);
+    }
+    assert!(longest > 500, "{longest}");
+}
+
+// Large files.
+
+/// All links between 64 persons.
+fn everybody_linked() -> Vec<u8> {
+    let mut pairs = vec![];
+    for owner in 0..64 {
+        pairs.extend(
+            (0..64)
+                .filter(|&target| target != owner)
+                .map(|target| (owner, target)),
+        );
+    }
+    files::undated(64, &pairs).bytes()
+}
+
+#[test]
+fn everybody_linked_at_four_hops() {
+    let asked = Asked::new(everybody_linked(), first_to_last(64, 4));
+    assert_eq!((asked.enough(), asked.chains().len()), (38_450, 230_765));
+    for cells in [10, 5_005, 2_307_640, 2_307_650, 2_307_660] {
+        let (answer, _, _) = asked.join(38_450, cells);
+        let count = (cells as u64 / 10).min(230_765);
+        assert_eq!(answer, listed(count, count == 230_765));
+    }
+    asked.refuses(38_449, 5_005, 18, 0);
+    asked.refuses(38_440, 10, 18, 0);
+}
+
+#[test]
+fn everybody_linked_at_six_hops() {
+    // The first chains of the listing by hops are those of four hops.
+    let file = everybody_linked();
+    let question = first_to_last(64, 6);
+    let asked = Asked {
+        by_hops: listing_by_hops(&file, &first_to_last(64, 4)),
+        halves: half_chains(&file, &question),
+        file,
+        question,
+    };
+    assert_eq!(asked.enough(), 2_307_650);
+    let _ = asked.join(2_307_650, 10);
+    let _ = asked.join(2_307_700, 60_007);
+    asked.refuses(2_307_649, 60_007, 18, 0);
+}
+
+#[test]
+fn more_half_chains_than_fit() {
+    // 13,619,045 half chains at 8 hops: the room is exceeded long before they are counted.
+    let file = everybody_linked();
+    let question = first_to_last(64, 8);
+    for working in [0, 10, 630, 38_450] {
+        let (mut cells, mut out) = (untouched(working), untouched(45));
+        let told = outside::join(&file, &question, &mut cells, &mut out);
+        let right = as_they_came(18, 0, working, 45);
+        assert_eq!((told, cells, out), right);
+    }
+}
+
+#[test]
+fn questions_over_a_largest_file() {
+    let mut random = Random::of_test("questions_over_a_largest_file");
+    let file = files::largest().bytes();
+    for _ in 0..10 {
+        let mut question = random_question(&mut random, 1024);
+        question.hops = random.between(1, 8) as u32;
+        let asked = Asked::new(file.clone(), question);
+        let all = 10 * asked.chains().len();
+        let _ = asked.join(asked.enough(), all + 15);
+        let _ = asked.join(asked.enough() + 7, 10);
+        asked.refuses(asked.enough() - 1, all + 15, 18, 0);
+    }
+}
+
+// Lengths.
+
+#[test]
+fn working_cells_and_outputs_of_every_length() {
+    let asked = Asked::six_persons(Q);
+    for working in 0..=75 {
+        for cells in 0..=45 {
+            let answer = asked.join(working, cells).0;
+            if cells < 10 {
+                assert_eq!(answer, refused(16, 0));
+            } else if working < 50 {
+                assert_eq!(answer, refused(18, 0));
+            } else {
+                let count = (cells as u64 / 10).min(3);
+                assert_eq!(answer, listed(count, count == 3));
+            }
+        }
+    }
+}
+
+#[test]
+fn no_cells_at_the_null_pointer() {
+    let file = files::six_persons().bytes();
+    let mut out = untouched(30);
+    assert_eq!(
+        outside::join_null_working(&file, &Q, &mut out),
+        refused(18, 0)
+    );
+    assert_eq!(outside::join_null_working(&[], &Q, &mut out), refused(1, 0));
+    assert_eq!(
+        outside::join_null_working(&file, &Q, &mut out[..9]),
+        refused(16, 0)
+    );
+    for working in [0, 49, 50] {
+        let mut working = untouched(working);
+        let told = outside::join_null_output(&file, &Q, &mut working);
+        assert_eq!(told, refused(16, 0));
+        let told = outside::join_null_output(&file[..187], &Q, &mut working);
+        assert_eq!(told, refused(3, 0));
+    }
+}
+
+// Refusals.
+
+#[test]
+fn every_refusal_of_the_file() {
+    let shape = files::six_persons();
+    let file = shape.bytes();
+    let wrong = Question { from: 9, ..Q };
+    for fault in catalogue(&shape) {
+        let Refusal { number, place } = fault.refusal;
+        let changed = with_faults(&file, &[&fault]);
+        for (question, working, cells) in [(Q, 50, 30), (Q, 49, 30), (Q, 49, 9), (wrong, 0, 0)] {
+            let asked = Asked::new(changed.clone(), question);
+            asked.refuses(working, cells, number, place);
+        }
+    }
+}
+
+#[test]
+fn every_refusal_of_the_question() {
+    let mut faults = question_faults(6, Q.from);
+    faults.retain(|fault| fault.number_of_question != 7);
+    for one in &faults {
+        for other in &faults {
+            let together = one.number_of_question != other.number_of_question;
+            if together && one.rank() <= other.rank() {
+                let mut numbers = numbers_of(&Q, 0);
+                numbers[other.number_of_question] = other.value;
+                numbers[one.number_of_question] = one.value;
+                let asked = Asked::six_persons(question_of(&numbers));
+                let Refusal { number, place } = one.refusal;
+                for (working, cells) in [(100, 45), (100, 9), (9, 45), (0, 0)] {
+                    asked.refuses(working, cells, number, place);
+                }
+            }
+        }
+    }
+}
+
+#[test]
+fn sixteen_comes_before_eighteen() {
+    let mut random = Random::of_test("sixteen_comes_before_eighteen");
+    let mut all = vec![Asked::six_persons(Q)];
+    all.extend((0..300).map(|_| Asked::random(&mut random, 6)));
+    for asked in all {
+        for cells in 0..10 {
+            for working in [0, asked.enough() - 1, asked.enough(), asked.enough() + 10] {
+                asked.refuses(working, cells, 16, 0);
+            }
+        }
+        asked.refuses(asked.enough() - 1, 10, 18, 0);
+    }
+}
