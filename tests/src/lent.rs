@@ -40,9 +40,22 @@ impl<T: Copy + PartialEq + Debug> Lent<T> {
         self.length
     }
 
+    /// The lent part as it is now.
+    pub fn contents(&self) -> &[T] {
+        &self.all[self.start..self.start + self.length]
+    }
+
     /// Fails if anything changed, in the part or around it.
     pub fn assert_as_it_came(&self) {
         assert!(self.all == self.before_call, "lent memory was changed");
+    }
+
+    /// Fails if anything changed around the part.
+    pub fn assert_zones_as_they_came(&self) {
+        let end = self.start + self.length;
+        let before = self.all[..self.start] == self.before_call[..self.start];
+        let behind = self.all[end..] == self.before_call[end..];
+        assert!(before && behind, "memory beside the lent part was changed");
     }
 }
 

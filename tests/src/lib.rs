@@ -8,4 +8,5 @@ pub mod files;
 pub mod lent;
 pub mod lister;
 pub mod outside;
+pub mod questions;
 pub mod random;

@@ -55,6 +55,99 @@ pub fn record(chain: &[u32]) -> [u32; 10] {
     cells
 }
 
+/// What a portion answers where it is not refused.
+#[derive(Clone, Copy, Debug, PartialEq, Eq)]
+pub struct Listed {
+    pub count: u64,
+    pub ended: bool,
+}
+
+/// The portion of a listing, written to `out` as it has to be. With `started` 0 the bookmark isn't looked at.
+pub fn portion(
+    listing: &Result<Vec<Chain>, Refusal>,
+    started: u32,
+    bookmark: &[u32],
+    out: &mut [u32],
+) -> Result<Listed, Refusal> {
+    let chains = match listing {
+        Ok(chains) => chains,
+        Err(refusal) => return Err(*refusal),
+    };
+    if out.len() < 10 {
+        return refused(16, 0);
+    }
+    let mut done = 0;
+    if started != 0 {
+        match chains
+            .iter()
+            .position(|chain| record(chain)[..] == *bookmark)
+        {
+            Some(place) => done = place + 1,
+            None => return refused(17, 0),
+        }
+    }
+    let left = &chains[done..];
+    let room = out.len() / 10;
+    let count = room.min(left.len());
+    for (i, chain) in left[..count].iter().enumerate() {
+        out[10 * i..10 * i + 10].copy_from_slice(&record(chain));
+    }
+    Ok(Listed {
+        count: count as u64,
+        ended: count == left.len(),
+    })
+}
+
+/// The first chain in dictionary order, for listings too long to be written down whole. Rows rise, so the first way
+/// met is the first in order.
+pub fn first(file: &[u8], question: &Question) -> Option<Chain> {
+    let counts = checker::verdict(file).expect("the file passes");
+    let hops = admitted_hops(file, counts, question);
+    let mut so_far = vec![question.from];
+    first_way(&hops, question, &mut so_far).then_some(so_far)
+}
+
+/// The chain that follows another in dictionary order, for listings too long to be written down whole: the last person
+/// that can be exchanged for a higher one is, and the first way on is taken.
+pub fn following(file: &[u8], question: &Question, chain: &[u32]) -> Option<Chain> {
+    let counts = checker::verdict(file).expect("the file passes");
+    let hops = admitted_hops(file, counts, question);
+    for place in (1..chain.len()).rev() {
+        let before = &chain[..place];
+        for &person in &hops[before[place - 1] as usize] {
+            if person > chain[place] && !before.contains(&person) {
+                let mut so_far = before.to_vec();
+                so_far.push(person);
+                if first_way(&hops, question, &mut so_far) {
+                    return Some(so_far);
+                }
+            }
+        }
+    }
+    None
+}
+
+/// Completes a chain by the first way in dictionary order, if there is one.
+fn first_way(hops: &Hops, question: &Question, so_far: &mut Chain) -> bool {
+    let last = so_far[so_far.len() - 1];
+    if last == question.to {
+        return true;
+    }
+    if so_far.len() as u32 > question.hops {
+        return false;
+    }
+    for &person in &hops[last as usize] {
+        if !so_far.contains(&person) {
+            so_far.push(person);
+            if first_way(hops, question, so_far) {
+                return true;
+            }
+            so_far.pop();
+        }
+    }
+    false
+}
+
 fn ends_below_n(question: &Question, n: u32) -> Result<(), Refusal> {
     if question.from >= n {
         return refused(10, 0);

@@ -6,44 +6,22 @@ use Prim.Native.Nat.{ℕ}
 use lib.ListN.{length, drop}
 use Rattle.linkfile.specs.Format.{personCount}
 use Rattle.linkfile.specs.Verdict.{Fault, sound, fault, unless}
-use Rattle.ways.specs.Listing.{listing}
 use Rattle.ways.specs.Portions.{portion, endedAfter}
-use Rattle.ways.specs.Records.{chainOf, written, isRecordIn}
+use Rattle.ways.specs.Records.{written}
 use Rattle.ways.specs.Halves.{halves, halvesFit}
 use Rattle.question.specs.declared.Question.{Question}
 use Rattle.question.specs.Asked.{askedFault}
 use Rattle.question.specs.Admission.{next}
+use Rattle.portion.specs.Listing.{recordSize, listingFor, Start, fresh, after, startsAfter, startFault}
 use Rattle.cases.specs.SixPersons.{six, ask, Q}
-
--- "A chain record has ten 32-bit cells"
-abbrev pub recordSize : ℕ
-recordSize = 10
-
--- "a fresh start or a bookmark (a chain record)"
-pub data Start : Type 0 where
-  fresh : Start
-  after : List ℕ → Start
-
--- the chain after which a portion starts: a fresh start comes before every chain
-abbrev pub startsAfter : Start → List ℕ
-startsAfter fresh = []
-startsAfter (after bookmark) = chainOf bookmark
-
--- 17: the bookmark is no record of a chain of this listing
-abbrev pub startFault : ℕ → List (List ℕ) → Start → Fault
-startFault size chains fresh = sound
-startFault size chains (after bookmark) = unless (isRecordIn size chains bookmark) 17 0 sound
 
 -- 18: working cells hold fewer records than there are half chains
 abbrev pub halvesFault : ℕ → ℕ → List (List ℕ) → Fault
 halvesFault size cells halfChains = unless (halvesFit size cells halfChains) 18 0 sound
 
--- what a file and a question give: the listing, a portion of it, the half chains
-abbrev pub listingFor : List ℕ → Question → List (List ℕ)
-listingFor file q = listing (next file q) (q .from) (q .to) (q .hops)
-
-abbrev pub portionFor : List ℕ → Question → ℕ → Start → List (List ℕ)
-portionFor file q room start = portion room (startsAfter start) (listingFor file q)
+-- a portion of the listing, and the half chains
+abbrev pub portionIn : List ℕ → Question → ℕ → Start → List (List ℕ)
+portionIn file q room start = portion room (startsAfter start) (listingFor file q)
 
 abbrev pub halvesFor : List ℕ → Question → List (List ℕ)
 halvesFor file q = halves (next file q) (personCount file) (q .from) (q .to) (q .hops)
@@ -66,11 +44,11 @@ abbrev pub Holds : List ℕ → Case → Type 0
 Holds file (listingIs q chains) = (askedFault file q ≡ sound) × (listingFor file q ≡ chains)
 Holds file (portionIs q room start count ended chains cells) =
     (askedFault file q ≡ sound)
-    × (startFault recordSize (listingFor file q) start ≡ sound)
-    × (length (portionFor file q room start) ≡ count)
+    × (startFault (listingFor file q) start ≡ sound)
+    × (length (portionIn file q room start) ≡ count)
     × (endedAfter room (startsAfter start) (listingFor file q) ≡ ended)
-    × (portionFor file q room start ≡ chains)
-    × Fill (portionFor file q room start) cells
+    × (portionIn file q room start ≡ chains)
+    × Fill (portionIn file q room start) cells
 Holds file (halvesAre q halfChains cells enough tooFew) =
     (askedFault file q ≡ sound)
     × (halvesFor file q ≡ halfChains)

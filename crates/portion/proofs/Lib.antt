@@ -1,2 +1,6 @@
 pub mod Bookmarks
 pub mod Cells
+pub mod Starting
+pub mod Records
+pub mod LaidEnd
+pub mod OneResult

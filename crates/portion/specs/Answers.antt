@@ -7,7 +7,7 @@ use lib.ListN.{length}
 use Rattle.linkfile.specs.Verdict.{Fault, sound, fault}
 use Rattle.ways.specs.Records.{written}
 use Rattle.question.specs.declared.Question.{Question}
-use Rattle.portion.specs.declared.Portion as code
+use Rattle.portion.specs.declared.Answer as code
 use Rattle.portion.specs.Listing.{recordSize, Start, startSaid, portionFault, portionFor, endedFor}
 
 -- "The answer is one of two cases, listed or refused": how many and whether the listing has ended, or number and place
@@ -16,7 +16,7 @@ pub data Answer : Type 0 where
   refused : ℕ → ℕ → Answer
 
 -- what the code's enum says, in these words
-abbrev pub answerSaid : code.Portion → Answer
+abbrev pub answerSaid : code.Answer → Answer
 answerSaid (code.the-variants.Listed count ended) = listed count ended
 answerSaid (code.the-variants.Refused number place) = refused number place
 
@@ -32,6 +32,6 @@ cellsFor sound chains out = written recordSize chains out
 cellsFor (fault number place) chains out = out
 
 -- portion: the answer, and the output at exit
-pub record Portioned (file : List ℕ) (q : Question) (start : Start) (out out′ : List ℕ) (answer : code.Portion) : Type 0 where
+pub record Portioned (file : List ℕ) (q : Question) (start : Start) (out out′ : List ℕ) (answer : code.Answer) : Type 0 where
   pub answers : answerSaid answer ≡ answerFor (portionFault file q start out) (length (portionFor file q start out)) (endedFor file q start out)
   pub cells : out′ ≡ cellsFor (portionFault file q start out) (portionFor file q start out) out

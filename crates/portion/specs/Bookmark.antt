@@ -1,13 +1,15 @@
 -- A bookmark as it is tested: cell by cell, with no listing. Definitions only.
 -- That the test says just whether the cells are the record of a chain of the listing is the law `bookmark-is`.
 use mathlib.Core.List.{List, [], _∷_}
-use mathlib.Core.Bool.{Bool, true, false, _&&_, not}
+use mathlib.Core.Bool.{Bool, true, false, _&&_, not, cond}
 use Prim.Native.Nat.{ℕ, zero, suc, _+_}
 use lib.ListN.{length, getD, drop}
 use lib.Seq.{slice}
 use lib.Dec.{eqb}
 use Rattle.linkfile.specs.Numbers.{within}
 use Rattle.ways.specs.Graph.{Graph, among}
+use Rattle.question.specs.declared.Question.{Question}
+use Rattle.portion.specs.Listing.{recordSize}
 
 -- from each person a link leads to the next, nobody comes again, and the last is To
 unfoldable pub runs : Graph → ℕ → List ℕ → Bool
@@ -28,3 +30,7 @@ isBookmark size g s t k cells =
     && eqb (getD cells 1 0) s
     && runs g t (slice 1 (getD cells 0 0 + 2) cells)
     && zeros (drop (getD cells 0 0 + 2) cells)
+
+-- a portion may start afresh, or after a bookmark
+abbrev pub startFits : Graph → Question → ℕ → List ℕ → Bool
+startFits g q started cells = cond (eqb started 0) true (isBookmark recordSize g (q .from) (q .to) (q .hops) cells)

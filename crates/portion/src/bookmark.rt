@@ -2,13 +2,14 @@
 use compact::LINKS;
 use compact::PERSONS;
 use compact::STARTS;
+use question::Question;
 ghost use mathlib.Core.Path.{_≡_};
 ghost use Prim.Native.Nat.{_+_, _≤_, _<_};
 ghost use lib.ListN.{length, getD, drop};
 ghost use lib.Seq.{slice};
 ghost use Rattle.ways.specs.Graph.{among};
 ghost use Rattle.compact.specs.Compact.{graphOf, Compact};
-ghost use Rattle.portion.specs.Bookmark.{runs, zeros, isBookmark};
+ghost use Rattle.portion.specs.Bookmark.{runs, zeros, isBookmark, startFits};
 
 // Whether a link leads from a person to the next.
 fn leads(starts: &[u16; STARTS], targets: &[u16; LINKS], person: u32, next: u32) -> bool
@@ -105,4 +106,28 @@ pub fn is_chain(
         return false;
     }
     blank(cells, last + 1)
+}
+
+// Whether a portion may start here: a fresh start may, and a bookmark that is the record of a chain.
+pub fn fits(
+    starts: &[u16; STARTS],
+    targets: &[u16; LINKS],
+    question: Question,
+    started: u32,
+    bookmark: &[u32],
+) -> bool
+    requires { ⌜ (Compact (now starts) (now targets)) × (question .hops ≤ 8) ⌝ }
+    ensures { λ r. ⌜ r ≡ startFits (graphOf (now (starts .entry)) (now (targets .entry))) question started (now (bookmark .entry)) ⌝ }
+{
+    if started == 0 {
+        return true;
+    }
+    is_chain(
+        starts,
+        targets,
+        question.from,
+        question.to,
+        question.hops,
+        bookmark,
+    )
 }

@@ -5,12 +5,90 @@
 // Portions laid end to end are the listing: the law stands in proofs/, over this operation's own promise.
 pub mod bookmark;
 
+use compact::LINKS;
+use compact::STARTS;
+use distance::table;
+use linkfile::Fault;
+use linkfile::header;
 use question::Question;
+use question::filling;
 ghost use Rattle.portion.specs.Listing.{startSaid};
+ghost use Rattle.portion.specs.Inside.{Passes};
 ghost use Rattle.portion.specs.Answers.{Portioned};
 
+// The cells of a chain record.
+pub const RECORD: usize = 10;
+
 // What a portion answers.
-pub enum Portion {
+pub enum Answer {
     Listed { count: usize, ended: bool },
     Refused { number: u32, place: u32 },
+}
+
+// Writes the first chains after the bookmark to the output, as records from cell 0 on, as many as it has room for, and answers how
+// many and whether the listing has ended. With `started` 0 it starts afresh, and the bookmark isn't looked at.
+pub fn portion(
+    file: &[u8],
+    question: Question,
+    started: u32,
+    bookmark: &[u32],
+    out: &mut [u32],
+) -> Answer
+    ensures { λ r. ⌜ Portioned (now (file .entry)) question (startSaid started (now (bookmark .entry))) (now (out .entry)) (now (out .exit)) r ⌝ }
+{
+    if let Fault::At(number, place) = question::asked(file, question) {
+        return Answer::Refused { number, place };
+    }
+    if out.len() < RECORD {
+        return Answer::Refused {
+            number: 16,
+            place: 0,
+        };
+    }
+    listed(file, question, started, bookmark, out)
+}
+
+// The same where the file, the question and the output have passed. The graph and the table are this function's own, so that a
+// refusal before it costs no stack.
+fn listed(
+    file: &[u8],
+    question: Question,
+    started: u32,
+    bookmark: &[u32],
+    out: &mut [u32],
+) -> Answer
+    requires { ⌜ Passes (now file) question (now out) ⌝ }
+    ensures { λ r. ⌜ Portioned (now (file .entry)) question (startSaid started (now (bookmark .entry))) (now (out .entry)) (now (out .exit)) r ⌝ }
+{
+    let mut starts = [0u16; STARTS];
+    let mut targets = [0u16; LINKS];
+    filling::fill(
+        file,
+        header::counts(file),
+        question,
+        &mut starts,
+        &mut targets,
+    );
+    if !bookmark::fits(&starts, &targets, question, started, bookmark) {
+        return Answer::Refused {
+            number: 17,
+            place: 0,
+        };
+    }
+    let fewest = table::distances(&starts, &targets, question.to as usize, question.hops as u8);
+    let found = search::list(
+        &starts,
+        &targets,
+        &fewest,
+        question.from,
+        question.to,
+        question.hops as usize,
+        started,
+        bookmark,
+        out,
+    );
+    Answer::Listed {
+        count: found.count,
+        ended: found.more == 0,
+    }
 }

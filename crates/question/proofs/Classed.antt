@@ -1,6 +1,6 @@
 -- The class and the feed of a link: what the tests of admission rest on.
-use mathlib.Core.Path.{_≡_, refl, ap, _∙_}
-use mathlib.Core.Logic.{_⊎_, inl, inr}
+use mathlib.Core.Path.{_≡_, ap, _∙_}
+use mathlib.Core.Logic.{inl, inr}
 use mathlib.Core.Bool.{Bool, true, false, _||_, cond}
 use mathlib.Core.List.{List}
 use Prim.Native.Nat.{ℕ, _+_, _*_, _≤_, _<_}
@@ -8,9 +8,9 @@ use lib.ListN.{length}
 use lib.Dec.{eqb}
 use native.Mathlib.Omega.{arith}
 use Rattle.linkfile.specs.Numbers.{within, number16, number32}
-use Rattle.linkfile.specs.Format.{linksStart, feedAt, feedIndex, target}
+use Rattle.linkfile.specs.Format.{linksStart, feedAt, target}
 use Rattle.linkfile.specs.Inside.{Laid}
-use Rattle.linkfile.specs.Kinds.{Class, class, unknown, classOf}
+use Rattle.linkfile.specs.Kinds.{class, unknown, classOf}
 use Rattle.linkfile.specs.declared.Counts.{Counts}
 use Rattle.linkfile.proofs.Counted.{place-is}
 use Rattle.question.specs.Inside.{OneClass, Fed}

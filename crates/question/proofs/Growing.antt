@@ -1,15 +1,14 @@
 -- How the compact graph grows: link by link within a person's row, and row by row.
-use mathlib.Core.Path.{_≡_, refl, sym, ap, subst, _∙_}
-use mathlib.Core.Logic.{_⊎_, inl, inr}
-use mathlib.Core.Bool.{Bool, true, false}
-use mathlib.Core.List.{List, [], _∷_, _++_, map, append-nil, append-assoc}
-use Prim.Native.Nat.{ℕ, zero, suc, _+_, _-_, _≤_, _<_}
-use lib.ListN.{length, getD, take, drop, set, length-append, length-set, List·getD-eq-default}
+use mathlib.Core.Path.{_≡_, sym, ap, subst, _∙_}
+use mathlib.Core.Bool.{true, false}
+use mathlib.Core.List.{List, _++_, append-nil}
+use Prim.Native.Nat.{ℕ, suc, _+_, _-_, _≤_, _<_}
+use lib.ListN.{length, getD, take, set, replicate, length-append, length-set, length-replicate, getD-replicate, List·getD-eq-default}
 use lib.Seq.{slice, take-take, take-append-le, take-suc-set, drop-at, drop-nil, length-take-le, append-snoc, getD-set-same, getD-set-other}
 use native.Mathlib.Numerals.{add-one}
 use native.Mathlib.Decide.{ℕ-discrete, decLt}
 use native.Mathlib.Omega.{arith}
-use Rattle.ways.specs.Graph.{pick, keep}
+use Rattle.ways.specs.Graph.{keep}
 use Rattle.ways.specs.Order.{Rising}
 use Rattle.linkfile.specs.Format.{personCount, linkCount, feedCount, row, target}
 use Rattle.linkfile.specs.Verdict.{sound}
@@ -18,7 +17,7 @@ use Rattle.linkfile.specs.Inside.{Laid}
 use Rattle.linkfile.specs.declared.Counts.{Counts}
 use Rattle.linkfile.proofs.Passed.{Passed, sound-rules, Lies, row-lies}
 use Rattle.linkfile.proofs.Linked.{Link, passed-link}
-use Rattle.compact.specs.Compact.{persons, graphOf, Compact}
+use Rattle.compact.specs.Compact.{persons, graphOf}
 use Rattle.question.specs.Admission.{admitted, numbersFrom, next}
 use Rattle.question.specs.Inside.{Fed}
 use Rattle.question.specs.Filled.{mostLinks, People, Fillable, Appendable, Appended, Filled}
@@ -239,3 +238,13 @@ module _ {file : List ℕ} {counts : Counts} {q : Question} {person end : ℕ} {
           go : Dec (p < persons) → graphOf starts targets p ≡ next file q p
           go (yes l) = f .graph p (omega arith)
           go (no n) = none p (omega arith)
+
+-- rooms of zeros are room for the graph of any file that passed
+pub zeros-fillable : {file : List ℕ} {counts : Counts} → Laid file counts → fileFault file ≡ sound → Fillable file counts (replicate (suc persons) 0) (replicate mostLinks 0)
+zeros-fillable laid faultless = record {
+  laid = laid;
+  faultless = faultless;
+  rows = length-replicate {A = ℕ} (suc persons) 0;
+  links = length-replicate {A = ℕ} mostLinks 0;
+  people = λ i l. rw (getD-replicate {A = ℕ} mostLinks i 0 0 (omega (arith, length-replicate {A = ℕ} mostLinks 0))) (omega arith);
+}

@@ -43,13 +43,10 @@ proper n q from to rest =
     record {
       from = ltb-true (q .from) n from;
       to = ltb-true (q .to) n to;
-      differ = eqb-false (q .from) (q .to) (not-true' (eqb (q .from) (q .to)) (eleven .0));
+      differ = eqb-false (q .from) (q .to) (not-true (eqb (q .from) (q .to)) (eleven .0));
       some = hops .0;
       most = hops .1;
     }
-  where
-    not-true' : (b : Bool) → not b ≡ true → b ≡ false
-    not-true' = not-true
 
 pub question-proper : (n : ℕ) (q : Question) → questionFault n q ≡ sound → Proper n q
 unfolding questionFault
@@ -75,3 +72,13 @@ asked-passed {file} {q} asks is = go (fileFault file) refl (sym asks ∙ ap faul
         → Passed file (personCount file) (linkCount file) (feedCount file) × Proper (personCount file) q
     go sound f e = (sound-rules file f, question-proper (personCount file) q e)
     go (fault number place) f e = let z : _≡_ {A = ℕ} 0 1 = cc in absurd (omega arith)
+
+-- one result only: any two answers that the promise of `asked` allows are equal
+fault-said : (a b : code.Fault) → faultSaid a ≡ faultSaid b → a ≡ b
+fault-said code.the-variants.Sound code.the-variants.Sound e = refl
+fault-said (code.the-variants.At number place) (code.the-variants.At other there) e = cc
+fault-said code.the-variants.Sound (code.the-variants.At number place) e = let z : _≡_ {A = ℕ} 0 1 = cc in absurd (omega arith)
+fault-said (code.the-variants.At number place) code.the-variants.Sound e = let z : _≡_ {A = ℕ} 0 1 = cc in absurd (omega arith)
+
+pub asked-one : (file : List ℕ) (q : Question) {a b : code.Fault} → Asks file q a → Asks file q b → a ≡ b
+asked-one file q {a} {b} one other = fault-said a b (one ∙ sym other)

@@ -5,7 +5,7 @@ use mathlib.Core.List.{List, [], _∷_, _++_, map, append-assoc, append-nil, tai
 use mathlib.Core.Logic.{⊎-elim}
 use Prim.Native.Nat.{ℕ, zero, suc, _+_, _-_, _*_, _/_, _≤_, _<_, min}
 use lib.ListN.{length, getD, set, take, drop, replicate, length-append, length-set, length-replicate, length-map, length-drop, length-take, getD-replicate, List·getD-eq-default}
-use lib.Seq.{paste, slice, take-nil, take-all, take-at, drop-append-add, drop-drop, set-at, take-append-seam}
+use lib.Seq.{getD-set-other, paste, slice, take-nil, take-all, take-at, drop-append-add, drop-drop, set-at, take-append-seam}
 use lib.Dec.{eqb, ltb, leb}
 use native.Mathlib.Omega.{arith}
 use native.Mathlib.Nat.{add-zero, zero-add, sub-zero, zero-min, min-zero, suc-min-suc}
@@ -31,7 +31,7 @@ use Rattle.search.specs.Bookmarks.{restOf, onward, Beginning, Tight}
 use Rattle.search.specs.Barriers.{Hold, trailRoom}
 use Rattle.search.specs.Walks.{seenOf, Marked, Ready, GoneThrough}
 use Rattle.search.specs.declared.Listed.{Listed}
-use Rattle.search.specs.declared.walk.Walk.{Walk}
+use Rattle.search.specs.Places.{Place}
 use Rattle.search.specs.declared.walk.Found.{Found}
 use Rattle.search.proofs.Cases.{same-or-not, lt-or-le}
 use Rattle.search.proofs.Writing.{emits-more}
@@ -93,7 +93,7 @@ module _ {g : Graph} {from to k : ℕ} {bookmark : List ℕ} (few : k ≤ mostHo
       ∙ ap (slice 2 (suc (suc (length (m .rest))))) (m .cells)
       ∙ take-append-seam (m .rest) (replicate (size - suc (suc (length (m .rest)))) 0)
 
-  marks-begin : (w : Walk) → w .to ≡ to → w .len ≡ 1 → Beginning bookmark w
+  marks-begin : (w : Place) → w .to ≡ to → w .len ≡ 1 → Beginning bookmark w
   unfolding recordOf
   marks-begin w t l =
       let some = way-some (m .way) in
@@ -123,7 +123,10 @@ nobody : Marked (replicate persons false) []
 unfolding among
 nobody = record { each = λ v l. getD-replicate persons v false false l }
 
-abbrev pub started-at : ℕ → ℕ → ℕ → ℕ → Walk
+blank : (i : ℕ) → _≡_ {A = ℕ} (getD (replicate size 0) i 0) 0
+blank i = ⊎-elim (λ l. getD-replicate size i 0 0 l) (λ l. List·getD-eq-default (replicate size 0) 0 {n = i} l) (lt-or-le i size)
+
+abbrev pub started-at : ℕ → ℕ → ℕ → ℕ → Place
 started-at to started room hops = record { to = to; tight = started; room = room; len = 1; left = hops }
 
 abbrev pub nothing : Found
@@ -131,13 +134,14 @@ nothing = record { count = 0; more = 0; trail = 0 }
 
 module _ {rows targets fewest : List ℕ} {from to hops started : ℕ} {bookmark : List ℕ} (k : Asked rows targets fewest from to hops started bookmark) where
   pub list-ready : (out trail : List ℕ) → length trail ≡ trailRoom
-      → Ready rows targets bookmark (set (replicate persons false) from true) out fewest trail (first from) (started-at to started (length out / size) hops) from nothing
+      → Ready rows targets bookmark (set (replicate persons false) from true) (first from) out fewest trail (started-at to started (length out / size) hops) from nothing
   list-ready out trail long = record {
     graph = k .graph;
     place = k .source;
     wide = length-set (replicate persons false) from true ∙ length-replicate persons false;
     marked = rw (seen-first from) (marked-more from (rw (length-replicate persons false) (k .source)) nobody);
     long = refl;
+    blank = λ i l. getD-set-other (replicate size 0) 1 i from 0 (λ e. omega arith) ∙ blank i;
     some = k .some;
     short = omega (arith, k .few);
     room = omega arith;
@@ -251,8 +255,8 @@ onward-in tight b ws {w} m = ⊎-elim (λ e. subst (λ l. w ∈ l) (onward-loose
 ended-more : (d n : ℕ) → _≡_ {A = ℕ} (pick (ltb d n) 1 0) (pick (leb n d) 0 1)
 ended-more d n = ⊎-elim (λ l. rw (lt-ltb d n l, lt-leb n d l)) (λ l. rw (le-ltb d n l, le-leb n d l)) (lt-or-le d n)
 
-pub list-answered : {rows targets fewest : List ℕ} {from to hops started : ℕ} {bookmark : List ℕ} {ms ms′ : List Bool} {out out′ bs bs′ ts ts′ : List ℕ} {found : Found} → Asked rows targets fewest from to hops started bookmark
-    → GoneThrough rows targets bookmark ms ms′ out out′ bs bs′ ts ts′ (first from) (started-at to started (length out / size) hops) from nothing found
+pub list-answered : {rows targets fewest : List ℕ} {from to hops started : ℕ} {bookmark : List ℕ} {ms ms′ : List Bool} {cs′ out out′ bs bs′ ts ts′ : List ℕ} {found : Found} → Asked rows targets fewest from to hops started bookmark
+    → GoneThrough rows targets bookmark ms ms′ (first from) cs′ out out′ bs bs′ ts ts′ (started-at to started (length out / size) hops) from nothing found
     → Answered rows targets from to hops started bookmark out out′ (record { count = found .count; more = found .more })
 unfolding written
 list-answered {rows} {targets} {from = from} {to} {hops} {started} {bookmark} {out = out} {out′} {found = found} k s =

@@ -17,7 +17,7 @@ use Rattle.ways.specs.Portions.{after}
 use Rattle.ways.proofs.After.{after-append, after-map, after-all, after-none, before-nil}
 use Rattle.search.specs.Face.{size}
 use Rattle.search.specs.Bookmarks.{restOf, onward, Beginning, Tight, Beside}
-use Rattle.search.specs.declared.walk.Walk.{Walk}
+use Rattle.search.specs.Places.{Place}
 
 pub onward-loose : (tight : ℕ) (b : List ℕ) (ws : List (List ℕ)) → tight ≡ 0 → onward tight b ws ≡ ws
 unfolding onward
@@ -59,7 +59,7 @@ after-before x v b ws h = after-none (x ∷ b) (map (_∷_ v) ws) (λ c m. let r
 after-behind : (x v : ℕ) (b : List ℕ) (ws : List (List ℕ)) → x < v → after (x ∷ b) (map (_∷_ v) ws) ≡ map (_∷_ v) ws
 after-behind x v b ws h = after-all (x ∷ b) (map (_∷_ v) ws) (λ c m. let r = Memᴰ·of-map (_∷_ v) ws m in subst (λ d. Before (x ∷ b) d) (r .2) (less h))
 
-module _ {bookmark : List ℕ} {w : Walk} where
+module _ {bookmark : List ℕ} {w : Place} where
   pub beside-loose : {v : ℕ} → w .tight ≡ 0 → Beside bookmark w v 0
   beside-loose {v} e = record {
     skipped = λ z. absurd (omega arith);

@@ -20,8 +20,8 @@ use Rattle.search.specs.Face.{size}
 use Rattle.search.specs.Pages.{Page, page, emit, emits, recordWith, Room, Handed}
 use Rattle.search.specs.Bookmarks.{restOf, onward, Beginning, Tight, Beside}
 use Rattle.search.specs.Barriers.{Hold, trailRoom, Raising, Barren, Settling, Settled, Barred}
-use Rattle.search.specs.Walks.{seenOf, Marked, Ready, following, through, handed, next, GoneThrough, Entered}
-use Rattle.search.specs.declared.walk.Walk.{Walk}
+use Rattle.search.specs.Walks.{seenOf, Marked, Ready, following, through, handed, next, noted, GoneThrough, Entered}
+use Rattle.search.specs.Places.{Place}
 use Rattle.search.specs.declared.walk.Found.{Found}
 use Rattle.search.proofs.Cases.{same-or-not, lt-or-le}
 use Rattle.search.proofs.Writing.{record-end, record-last, emits-append, emits-more, emits-none, map-none}
@@ -51,9 +51,9 @@ marked-more {marks} {seen} v h m = record {
       (same-or-not u v);
 }
 
--- a mark made and taken back
-unmarked : (marks : List Bool) (v : ℕ) → getD marks v false ≡ false → set (set marks v true) v false ≡ marks
-unmarked marks v h = set-set marks v true false ∙ ap (set marks v) (sym h) ∙ set-getD marks v false
+-- a cell that was set and put back
+put-back : {A : Type 0} (l : List A) (i : ℕ) (x d : A) → getD l i d ≡ d → set (set l i x) i d ≡ l
+put-back l i x d h = set-set l i x d ∙ ap (set l i) (sym h) ∙ set-getD l i d
 
 -- ---- the last hop: nobody but t can follow, and t stands once in the row
 
@@ -74,15 +74,15 @@ last-hop g t p seen r m =
     rw (q .2, flatMap-append (by t seen (ways g t 0)) (q .0) (t ∷ q .1), eq-eqb t t refl)
     (rw (last-none g t seen (q .0) (λ x i e. let h = rising-below _<_ (q .1) i u in omega arith), last-none g t seen (q .1) (λ x i e. let h = rising-above _<_ t (q .0) (q .1) u x i in omega arith)))
 
-module _ {rows targets bookmark : List ℕ} {marks : List Bool} {out barriers trail chain : List ℕ} {w : Walk} {v : ℕ} {found : Found}
-    (k : Ready rows targets bookmark marks out barriers trail chain w v found) where
+module _ {rows targets bookmark : List ℕ} {marks : List Bool} {chain out barriers trail : List ℕ} {w : Place} {v : ℕ} {found : Found}
+    (k : Ready rows targets bookmark marks chain out barriers trail w v found) where
   here : Barred (graphOf rows targets) (w .to) (seenOf chain (w .len)) (w .left) barriers barriers trail trail (found .trail) (found .trail)
   here = barred-none (k .hold) (omega (arith, k .fits, k .trails))
 
   -- v stands before the bookmark's next person
-  pub enter-skipped : {s : ℕ} → Beside bookmark w v s → s ≡ 2 → Entered rows targets bookmark marks marks out out barriers barriers trail trail chain w v found found
+  pub enter-skipped : {s : ℕ} → Beside bookmark w v s → s ≡ 2 → Entered rows targets bookmark marks marks chain chain out out barriers barriers trail trail w v found found
   unfolding by emits
-  enter-skipped {s} side e = record { same = refl; barred = here; right = go (eqb v (w .to)) (among v (seenOf chain (w .len))) (ways (graphOf rows targets) (w .to) (w .left - 1) (v ∷ seenOf chain (w .len)) v) }
+  enter-skipped {s} side e = record { same = refl; whole = refl; barred = here; right = go (eqb v (w .to)) (among v (seenOf chain (w .len))) (ways (graphOf rows targets) (w .to) (w .left - 1) (v ∷ seenOf chain (w .len)) v) }
     where
       go : (a b : Bool) (ws : List (List ℕ)) → page found out ≡ emits (w .room) (page found out) (map (recordWith chain (w .len)) (onward (w .tight) (restOf bookmark (w .len)) (pick a ((v ∷ []) ∷ []) (pick b [] (map (_∷_ v) ws)))))
       go true b ws = rw (side .skipped e ([] ∷ []))
@@ -90,19 +90,20 @@ module _ {rows targets bookmark : List ℕ} {marks : List Bool} {out barriers tr
       go false false ws = rw (side .skipped e ws)
 
   -- v is To, and the bookmark's last person
-  pub enter-bookmark : {s : ℕ} → Beside bookmark w v s → (s ≡ 2 → ⊥) → (s ≡ 0 → ⊥) → v ≡ w .to → Entered rows targets bookmark marks marks out out barriers barriers trail trail chain w v found found
+  pub enter-bookmark : {s : ℕ} → Beside bookmark w v s → (s ≡ 2 → ⊥) → (s ≡ 0 → ⊥) → v ≡ w .to → Entered rows targets bookmark marks marks chain chain out out barriers barriers trail trail w v found found
   unfolding by emits
-  enter-bookmark {s} side n2 n0 h = record { same = refl; barred = here; right = rw (eq-eqb v (w .to) h, side .on n2 ([] ∷ []), onward-end s (restOf bookmark (w .len + 1)) n0) }
+  enter-bookmark {s} side n2 n0 h = record { same = refl; whole = refl; barred = here; right = rw (eq-eqb v (w .to) h, side .on n2 ([] ∷ []), onward-end s (restOf bookmark (w .len + 1)) n0) }
 
   -- v is To
-  pub end-room : Room out chain w (w .len) found
-  end-room = record { room = k .room; long = k .long; behind = omega arith; short = omega (arith, k .short, k .some); none = k .none }
+  pub end-room : Room out chain (w .room) (w .len) (w .len) found
+  end-room = record { cells = k .room; long = k .long; behind = omega arith; short = omega (arith, k .short, k .some); none = k .none }
 
-  pub enter-end : {out′ : List ℕ} {r : Found} {s : ℕ} → Beside bookmark w v s → s ≡ 0 → v ≡ w .to → Handed out out′ chain w v (w .len) found r
-      → Entered rows targets bookmark marks marks out out′ barriers barriers trail trail chain w v found r
+  pub enter-end : {out′ : List ℕ} {r : Found} {s : ℕ} → Beside bookmark w v s → s ≡ 0 → v ≡ w .to → Handed out out′ chain (w .to) (w .room) (w .len) v (w .len) found r
+      → Entered rows targets bookmark marks marks chain chain out out′ barriers barriers trail trail w v found r
   unfolding by emits
   enter-end {s = s} side z e h = record {
     same = refl;
+    whole = refl;
     barred = rw (h .trail) here;
     right = rw (eq-eqb v (w .to) e, side .on (λ q. omega arith) ([] ∷ []), onward-loose s (restOf bookmark (w .len + 1)) ([] ∷ []) z, e) (rw (e, record-end) at (h .right));
   }
@@ -111,32 +112,33 @@ module _ {rows targets bookmark : List ℕ} {marks : List Bool} {out barriers tr
   known = k .marked .each v (k .place)
 
   -- v is in the chain
-  pub enter-marked : (v ≡ w .to → ⊥) → getD marks v false ≡ true → Entered rows targets bookmark marks marks out out barriers barriers trail trail chain w v found found
+  pub enter-marked : (v ≡ w .to → ⊥) → getD marks v false ≡ true → Entered rows targets bookmark marks marks chain chain out out barriers barriers trail trail w v found found
   unfolding by emits
-  enter-marked ne h = record { same = refl; barred = here; right = rw (ne-eqb v (w .to) ne, ← known, h, onward-none) }
+  enter-marked ne h = record { same = refl; whole = refl; barred = here; right = rw (ne-eqb v (w .to) ne, ← known, h, onward-none) }
 
   module _ (ne : v ≡ w .to → ⊥) (free : getD marks v false ≡ false) where
     -- v's barrier is too high
-    pub enter-barred : w .left - 1 < getD barriers v 0 → Entered rows targets bookmark marks marks out out barriers barriers trail trail chain w v found found
+    pub enter-barred : w .left - 1 < getD barriers v 0 → Entered rows targets bookmark marks marks chain chain out out barriers barriers trail trail w v found found
     unfolding by emits
-    enter-barred h = record { same = refl; barred = here; right = rw (ne-eqb v (w .to) ne, ← known, free, k .hold .sound v (w .left - 1) h, onward-none) }
+    enter-barred h = record { same = refl; whole = refl; barred = here; right = rw (ne-eqb v (w .to) ne, ← known, free, k .hold .sound v (w .left - 1) h, onward-none) }
 
     module _ (low : getD barriers v 0 ≤ w .left - 1) where
       -- whoever is not To has a barrier, so a hop is left behind v
       two : 2 ≤ w .left
       two = omega (arith, k .hold .far v (k .place) ne)
 
-      pub last-room : w .left - 1 ≡ 1 → Room out chain w (w .len + 1) found
-      last-room e = record { room = k .room; long = k .long; behind = omega arith; short = omega (arith, k .short, two); none = k .none }
+      pub last-room : w .left - 1 ≡ 1 → Room out chain (w .room) (w .len) (w .len + 1) found
+      last-room e = record { cells = k .room; long = k .long; behind = omega arith; short = omega (arith, k .short, two); none = k .none }
 
       -- the last hop
-      pub enter-last : {out′ : List ℕ} {r : Found} {s : ℕ} → Beside bookmark w v s → s ≡ 0 → w .left - 1 ≡ 1 → Handed out out′ chain w v (w .len + 1) found r
-          → Entered rows targets bookmark marks marks out out′ barriers barriers trail trail chain w v found r
+      pub enter-last : {out′ : List ℕ} {r : Found} {s : ℕ} → Beside bookmark w v s → s ≡ 0 → w .left - 1 ≡ 1 → Handed out out′ chain (w .to) (w .room) (w .len) v (w .len + 1) found r
+          → Entered rows targets bookmark marks marks chain chain out out′ barriers barriers trail trail w v found r
       unfolding by emits
       enter-last {s = s} side z e h =
           let only : ways (graphOf rows targets) (w .to) (w .left - 1) (v ∷ seenOf chain (w .len)) v ≡ (w .to ∷ []) ∷ [] = rw e (last-hop (graphOf rows targets) (w .to) v (v ∷ seenOf chain (w .len)) (k .graph .rising v) (k .hold .near v (k .place) ne (omega (arith, low, e)))) in
           record {
             same = refl;
+            whole = refl;
             barred = rw (h .trail) here;
             right = rw (ne-eqb v (w .to) ne, ← known, free, only, side .on (λ q. omega arith) ((w .to ∷ []) ∷ []), onward-loose s (restOf bookmark (w .len + 1)) ((w .to ∷ []) ∷ []) z) (rw record-last at (h .right));
           }
@@ -158,13 +160,14 @@ module _ {rows targets bookmark : List ℕ} {marks : List Bool} {out barriers tr
             };
       }
 
-      pub enter-ready : {s : ℕ} → Beside bookmark w v s → (s ≡ 2 → ⊥) → Ready rows targets bookmark (set marks v true) out barriers trail (set chain (w .len + 1) v) (next w s) v found
+      pub enter-ready : {s : ℕ} → Beside bookmark w v s → (s ≡ 2 → ⊥) → Ready rows targets bookmark (set marks v true) (set chain (w .len + 1) v) out barriers trail (next w s) v (noted found)
       enter-ready side n2 = record {
         graph = k .graph;
         place = k .place;
         wide = length-set marks v true ∙ k .wide;
         marked = rw seen-next (marked-more v (omega (arith, k .wide, k .place)) (k .marked));
         long = length-set chain (w .len + 1) v ∙ k .long;
+        blank = λ i l. getD-set-other chain (w .len + 1) i v 0 (λ e. omega arith) ∙ k .blank i (omega arith);
         some = omega (arith, two);
         short = omega (arith, k .short, two);
         room = k .room;
@@ -172,11 +175,11 @@ module _ {rows targets bookmark : List ℕ} {marks : List Bool} {out barriers tr
         hold = rw seen-next (hold-push v (k .hold));
         trails = k .trails;
         fits = k .fits;
-        none = k .none;
+        none = refl;
       }
 
-      module _ {marks′ : List Bool} {out′ barriers₁ trail₁ : List ℕ} {r : Found} {s : ℕ}
-          (done : GoneThrough rows targets bookmark (set marks v true) marks′ out out′ barriers barriers₁ trail trail₁ (set chain (w .len + 1) v) (next w s) v found r) where
+      module _ {marks′ : List Bool} {chain′ out′ barriers₁ trail₁ : List ℕ} {r : Found} {s : ℕ}
+          (done : GoneThrough rows targets bookmark (set marks v true) marks′ (set chain (w .len + 1) v) chain′ out out′ barriers barriers₁ trail trail₁ (next w s) v (noted found) r) where
         on-barred : Barred (graphOf rows targets) (w .to) (v ∷ seenOf chain (w .len)) (w .left - 1) barriers barriers₁ trail trail₁ (found .trail) (r .trail)
         on-barred = rw seen-next at (done .barred)
 
@@ -184,10 +187,10 @@ module _ {rows targets bookmark : List ℕ} {marks : List Bool} {out barriers tr
         on-dead : Barren s found r → ways (graphOf rows targets) (w .to) (w .left - 1) (v ∷ seenOf chain (w .len)) v ≡ []
         on-dead f =
             let right = rw seen-next at (done .right) in
-            let none = emits-none (w .room) (page found out) _ (sym (ap (λ (q : Page). q .more) right) ∙ f .none) (sym (ap (λ (q : Page). q .count) right) ∙ f .same) in
+            let none = emits-none (w .room) (page (noted found) out) _ (sym (ap (λ (q : Page). q .more) right) ∙ f .none) (sym (ap (λ (q : Page). q .count) right) ∙ f .same) in
             sym (onward-loose s _ _ (f .loose)) ∙ map-none _ _ none
 
-        pub enter-settling : Settling barriers₁ trail₁ v (w .left) found r
+        pub enter-settling : Settling barriers₁ trail₁ v (w .left - 1 + 1) found r
         enter-settling = record {
           raising = record {
             place = k .place;
@@ -200,33 +203,35 @@ module _ {rows targets bookmark : List ℕ} {marks : List Bool} {out barriers tr
           rise = on-barred .trailed .rise;
         }
 
-        pub enter-left : {barriers₂ trail₂ : List ℕ} {n : ℕ} → Beside bookmark w v s → (s ≡ 2 → ⊥) → Settled barriers₁ barriers₂ trail₁ trail₂ v s (w .left) found r n
-            → Entered rows targets bookmark marks (set marks′ v false) out out′ barriers barriers₂ trail trail₂ chain w v found (record { count = r .count; more = r .more; trail = n })
+        pub enter-left : {barriers₂ trail₂ : List ℕ} {n : ℕ} → Beside bookmark w v s → (s ≡ 2 → ⊥) → Settled barriers₁ barriers₂ trail₁ trail₂ v s (w .left - 1 + 1) found r n
+            → Entered rows targets bookmark marks (set marks′ v false) chain (set chain′ (w .len + 1) 0) out out′ barriers barriers₂ trail trail₂ w v found (record { count = r .count; more = r .more; trail = n })
         unfolding by recordWith
         enter-left {barriers₂} {trail₂} {n} side n2 settled =
             let left : suc (w .left - 1) ≡ w .left = omega (arith, k .some) in
             record {
-              same = ap (λ (m : List Bool). set m v false) (done .same) ∙ unmarked marks v free;
-              right = rw (ne-eqb v (w .to) ne, ← known, free, side .on n2, map-map) (rw seen-next at (done .right));
-              barred = rw left at (barred-settle {h = w .left - 1} (k .place) (omega (arith, two)) (omega (arith, k .short)) (k .hold) on-barred on-dead (rw (← left) at settled));
+              same = ap (λ (m : List Bool). set m v false) (done .same) ∙ put-back marks v true false free;
+              whole = ap (λ (c : List ℕ). set c (w .len + 1) 0) (done .whole) ∙ put-back chain (w .len + 1) v 0 (k .blank (w .len + 1) (omega arith));
+              right = rw (ne-eqb v (w .to) ne, ← known, free, side .on n2, map-map, k .none) (rw seen-next at (done .right));
+              barred = rw left at (barred-settle {h = w .left - 1} (k .place) (omega (arith, two)) (omega (arith, k .short)) (k .hold) on-barred on-dead (rw (add-one (w .left - 1)) at settled));
             }
 
 -- ---- going through the links
 
 -- the ways on through each link from cell i on
-abbrev pub still : List ℕ → List ℕ → List ℕ → List ℕ → Walk → ℕ → ℕ → List (List ℕ)
+abbrev pub still : List ℕ → List ℕ → List ℕ → List ℕ → Place → ℕ → ℕ → List (List ℕ)
 still rows targets bookmark chain w i end = onward (w .tight) (restOf bookmark (w .len)) (flatMap (by (w .to) (seenOf chain (w .len)) (ways (graphOf rows targets) (w .to) (w .left - 1))) (slice i end targets))
 
 -- the loop's invariant: what was handed over, with what is still to come, is all
-pub record Turning (rows targets bookmark : List ℕ) (marks₀ : List Bool) (out₀ barriers₀ trail₀ chain : List ℕ) (w : Walk) (at end : ℕ) (found₀ : Found) (marks : List Bool) (out barriers trail : List ℕ) (i : ℕ) (found : Found) : Type 0 where
-  pub ready : Ready rows targets bookmark marks₀ out₀ barriers₀ trail₀ chain w at found₀
-  pub barred : Barred (graphOf rows targets) (w .to) (seenOf chain (w .len)) (w .left) barriers₀ barriers trail₀ trail (found₀ .trail) (found .trail)
+pub record Turning (rows targets bookmark : List ℕ) (marks₀ : List Bool) (chain₀ out₀ barriers₀ trail₀ : List ℕ) (w : Place) (at end : ℕ) (found₀ : Found) (marks : List Bool) (chain out barriers trail : List ℕ) (i : ℕ) (found : Found) : Type 0 where
+  pub ready : Ready rows targets bookmark marks₀ chain₀ out₀ barriers₀ trail₀ w at found₀
+  pub barred : Barred (graphOf rows targets) (w .to) (seenOf chain₀ (w .len)) (w .left) barriers₀ barriers trail₀ trail (found₀ .trail) (found .trail)
   pub same : marks ≡ marks₀
+  pub whole : chain ≡ chain₀
   pub long : length out ≡ length out₀
   pub within : i ≤ end
   pub bound : end ≤ length targets
   pub none : found .more ≡ 0
-  pub right : handed chain w (page found out) (still rows targets bookmark chain w i end) ≡ handed chain w (page found₀ out₀) (following rows targets bookmark chain w at)
+  pub right : handed chain₀ w (page found out) (still rows targets bookmark chain₀ w i end) ≡ handed chain₀ w (page found₀ out₀) (following rows targets bookmark chain₀ w at)
 
 -- the ways on from a person, by his links
 ways-links : (g : Graph) (t k : ℕ) (seen : List ℕ) (p : ℕ) → 1 ≤ k → ways g t k seen p ≡ flatMap (by t seen (ways g t (k - 1))) (g p)
@@ -234,53 +239,62 @@ unfolding ways
 ways-links g t zero seen p h = absurd (omega arith)
 ways-links g t (suc k) seen p h = rw sub-one
 
-module _ {rows targets bookmark : List ℕ} {marks : List Bool} {out barriers trail chain : List ℕ} {w : Walk} {at : ℕ} {found : Found} where
-  pub go-start : Ready rows targets bookmark marks out barriers trail chain w at found
-      → Turning rows targets bookmark marks out barriers trail chain w at (getD rows (at + 1) 0) found marks out barriers trail (getD rows at 0) found
+module _ {rows targets bookmark : List ℕ} {marks : List Bool} {chain out barriers trail : List ℕ} {w : Place} {at : ℕ} {found : Found} where
+  pub go-start : Ready rows targets bookmark marks chain out barriers trail w at found
+      → Turning rows targets bookmark marks chain out barriers trail w at (getD rows (at + 1) 0) (noted found) marks chain out barriers trail (getD rows at 0) (noted found)
   go-start k = record {
-    ready = k;
+    ready = record { graph = k .graph; place = k .place; wide = k .wide; marked = k .marked; long = k .long; blank = k .blank; some = k .some; short = k .short; room = k .room; tight = k .tight; hold = k .hold; trails = k .trails; fits = k .fits; none = refl };
     barred = barred-none (k .hold) (omega (arith, k .fits, k .trails));
     same = refl;
+    whole = refl;
     long = refl;
     within = k .graph .rise at (k .place);
     bound = k .graph .ends at (k .place);
-    none = k .none;
+    none = refl;
     right = rw (ways-links (graphOf rows targets) (w .to) (w .left) (seenOf chain (w .len)) at (k .some));
   }
 
-  module _ {end : ℕ} {marks′ : List Bool} {out′ barriers′ trail′ : List ℕ} {i : ℕ} {found′ : Found} (inv : Turning rows targets bookmark marks out barriers trail chain w at end found marks′ out′ barriers′ trail′ i found′) where
-    pub go-enter : i < end → Ready rows targets bookmark marks′ out′ barriers′ trail′ chain w (getD targets i 0) found′
+  -- nothing was noted before
+  pub go-noted : {marks′ : List Bool} {chain′ out′ barriers′ trail′ : List ℕ} {found′ : Found} → Ready rows targets bookmark marks chain out barriers trail w at found
+      → GoneThrough rows targets bookmark marks marks′ chain chain′ out out′ barriers barriers′ trail trail′ w at (noted found) found′
+      → GoneThrough rows targets bookmark marks marks′ chain chain′ out out′ barriers barriers′ trail trail′ w at found found′
+  go-noted k g = record { same = g .same; whole = g .whole; right = rw (k .none) (g .right); barred = g .barred }
+
+  module _ {end : ℕ} {marks′ : List Bool} {chain′ out′ barriers′ trail′ : List ℕ} {i : ℕ} {found′ : Found} (inv : Turning rows targets bookmark marks chain out barriers trail w at end found marks′ chain′ out′ barriers′ trail′ i found′) where
+    pub go-enter : i < end → Ready rows targets bookmark marks′ chain′ out′ barriers′ trail′ w (getD targets i 0) found′
     go-enter lt = let k = inv .ready in record {
       graph = k .graph;
       place = k .graph .people i (omega (arith, inv .bound));
       wide = ap length (inv .same) ∙ k .wide;
-      marked = rw (inv .same) (k .marked);
-      long = k .long;
+      marked = rw (inv .same, inv .whole) (k .marked);
+      long = ap length (inv .whole) ∙ k .long;
+      blank = λ j l. rw (inv .whole) (k .blank j l);
       some = k .some;
       short = k .short;
       room = omega (arith, k .room, inv .long);
       tight = k .tight;
-      hold = inv .barred .hold;
+      hold = rw (inv .whole) (inv .barred .hold);
       trails = inv .barred .trailed .long ∙ k .trails;
       fits = omega (arith, inv .barred .trailed .fits, inv .barred .trailed .long, k .trails);
       none = inv .none;
     }
 
-    module _ {marks″ : List Bool} {out″ barriers″ trail″ : List ℕ} {found″ : Found} (lt : i < end)
-        (e : Entered rows targets bookmark marks′ marks″ out′ out″ barriers′ barriers″ trail′ trail″ chain w (getD targets i 0) found′ found″) where
+    module _ {marks″ : List Bool} {chain″ out″ barriers″ trail″ : List ℕ} {found″ : Found} (lt : i < end)
+        (e : Entered rows targets bookmark marks′ marks″ chain′ chain″ out′ out″ barriers′ barriers″ trail′ trail″ w (getD targets i 0) found′ found″) where
       step-right : handed chain w (page found″ out″) (still rows targets bookmark chain w (i + 1) end) ≡ handed chain w (page found out) (following rows targets bookmark chain w at)
       unfolding flatMap
-      step-right = rw (e .right, ← emits-append, ← map-append, ← onward-append, add-one i) (rw (slice-cons i end targets 0 lt (inv .bound)) at (inv .right))
+      step-right = rw (rw (inv .whole) at (e .right), ← emits-append, ← map-append, ← onward-append, add-one i) (rw (slice-cons i end targets 0 lt (inv .bound)) at (inv .right))
 
       -- one more than there is room for was seen: nothing else is handed over
-      pub go-stop : (found″ .more ≡ 0 → ⊥) → GoneThrough rows targets bookmark marks marks″ out out″ barriers barriers″ trail trail″ chain w at found found″
-      go-stop n = record { same = e .same ∙ inv .same; barred = barred-trans (inv .barred) (e .barred); right = sym (emits-more (w .room) (page found″ out″) _ n) ∙ step-right }
+      pub go-stop : (found″ .more ≡ 0 → ⊥) → GoneThrough rows targets bookmark marks marks″ chain chain″ out out″ barriers barriers″ trail trail″ w at found found″
+      go-stop n = record { same = e .same ∙ inv .same; whole = e .whole ∙ inv .whole; barred = barred-trans (inv .barred) (rw (inv .whole) at (e .barred)); right = sym (emits-more (w .room) (page found″ out″) _ n) ∙ step-right }
 
-      pub go-turn : length out″ ≡ length out′ → found″ .more ≡ 0 → Turning rows targets bookmark marks out barriers trail chain w at end found marks″ out″ barriers″ trail″ (i + 1) found″
+      pub go-turn : length out″ ≡ length out′ → found″ .more ≡ 0 → Turning rows targets bookmark marks chain out barriers trail w at end found marks″ chain″ out″ barriers″ trail″ (i + 1) found″
       go-turn long n = record {
         ready = inv .ready;
-        barred = barred-trans (inv .barred) (e .barred);
+        barred = barred-trans (inv .barred) (rw (inv .whole) at (e .barred));
         same = e .same ∙ inv .same;
+        whole = e .whole ∙ inv .whole;
         long = long ∙ inv .long;
         within = omega arith;
         bound = inv .bound;
@@ -288,8 +302,8 @@ module _ {rows targets bookmark : List ℕ} {marks : List Bool} {out barriers tr
         right = step-right;
       }
 
-    pub go-end : end ≤ i → GoneThrough rows targets bookmark marks marks′ out out′ barriers barriers′ trail trail′ chain w at found found′
+    pub go-end : end ≤ i → GoneThrough rows targets bookmark marks marks′ chain chain′ out out′ barriers barriers′ trail trail′ w at found found′
     unfolding flatMap emits
     go-end h =
         let e : i ≡ end = omega (arith, inv .within) in
-        record { same = inv .same; barred = inv .barred; right = rw (e, slice-empty end targets, onward-none) at (inv .right) }
+        record { same = inv .same; whole = inv .whole; barred = inv .barred; right = rw (e, slice-empty end targets, onward-none) at (inv .right) }

@@ -14,7 +14,6 @@ use borrow.Author.Tests.{eq-eqb, ne-eqb, lt-ltb, le-ltb}
 use Rattle.ways.specs.Graph.{pick}
 use Rattle.search.specs.Face.{size}
 use Rattle.search.specs.Pages.{Page, page, emit, emits, recordWith, Room, Handed}
-use Rattle.search.specs.declared.walk.Walk.{Walk}
 use Rattle.search.specs.declared.walk.Found.{Found}
 use Rattle.search.proofs.Cases.{same-or-not, lt-or-le}
 
@@ -66,18 +65,18 @@ set-record out chain at a b x y z fits long ha hb =
     ∙ ap (λ (o : List ℕ). set o (at + b) z) (paste-set out at (set chain 0 x) size a y (omega arith) (omega arith) ha)
     ∙ paste-set out at (set (set chain 0 x) a y) size b z (omega arith) (omega arith) hb
 
-module _ {out chain : List ℕ} {w : Walk} {hops : ℕ} {found : Found} (k : Room out chain w hops found) where
-  pub hand-full : {v : ℕ} → w .room ≤ found .count → Handed out out chain w v hops found (record { count = found .count; more = 1; trail = found .trail })
-  hand-full h = record { trail = refl; right = rw (eq-eqb (found .more) 0 (k .none), le-ltb (found .count) (w .room) h) }
+module _ {out chain : List ℕ} {room len hops : ℕ} {found : Found} (k : Room out chain room len hops found) where
+  pub hand-full : {to v : ℕ} → room ≤ found .count → Handed out out chain to room len v hops found (record { count = found .count; more = 1; trail = found .trail })
+  hand-full h = record { trail = refl; right = rw (eq-eqb (found .more) 0 (k .none), le-ltb (found .count) room h) }
 
-  pub hand-fits : found .count < w .room → found .count * size + size ≤ length out
-  hand-fits h = omega (arith, k .room)
+  pub hand-fits : found .count < room → found .count * size + size ≤ length out
+  hand-fits h = omega (arith, k .cells)
 
-  pub hand-put : {v : ℕ} {out′ : List ℕ} → found .count < w .room → out′ ≡ paste out (found .count * size) chain size
-      → Handed out (set (set (set out′ (found .count * size) hops) (found .count * size + (w .len + 1)) v) (found .count * size + (hops + 1)) (w .to)) chain w v hops found (record { count = found .count + 1; more = 0; trail = found .trail })
-  hand-put {v} {out′} h e = record {
+  pub hand-put : {to v : ℕ} {out′ : List ℕ} → found .count < room → out′ ≡ paste out (found .count * size) chain size
+      → Handed out (set (set (set out′ (found .count * size) hops) (found .count * size + (len + 1)) v) (found .count * size + (hops + 1)) to) chain to room len v hops found (record { count = found .count + 1; more = 0; trail = found .trail })
+  hand-put {to} {v} {out′} h e = record {
     trail = refl;
-    right = rw (eq-eqb (found .more) 0 (k .none), lt-ltb (found .count) (w .room) h, e, set-record out chain (found .count * size) (w .len + 1) (hops + 1) hops v (w .to) (hand-fits h) (k .long) (omega (arith, k .behind, k .short)) (omega (arith, k .short)));
+    right = rw (eq-eqb (found .more) 0 (k .none), lt-ltb (found .count) room h, e, set-record out chain (found .count * size) (len + 1) (hops + 1) hops v to (hand-fits h) (k .long) (omega (arith, k .behind, k .short)) (omega (arith, k .short)));
   }
 
 -- the record of the chain with To behind it, and with v and To behind it

@@ -8,7 +8,7 @@ use lib.Seq.{slice}
 use Rattle.ways.specs.Graph.{pick}
 use Rattle.ways.specs.Portions.{after}
 use Rattle.search.specs.Face.{size}
-use Rattle.search.specs.declared.walk.Walk.{Walk}
+use Rattle.search.specs.Places.{Place}
 
 -- the bookmark's persons behind the first n, of its record
 abbrev pub restOf : List ℕ → ℕ → List ℕ
@@ -19,17 +19,17 @@ unfoldable pub onward : ℕ → List ℕ → List (List ℕ) → List (List ℕ)
 onward tight b ws = pick (eqb tight 0) ws (after b ws)
 
 -- while the chain is the bookmark's beginning: the bookmark is a record, it goes on, and it ends at To
-pub record Beginning (bookmark : List ℕ) (w : Walk) : Type 0 where
+pub record Beginning (bookmark : List ℕ) (w : Place) : Type 0 where
   pub cells : length bookmark ≡ size
   pub fits : getD bookmark 0 0 + 2 ≤ size
   pub on : w .len ≤ getD bookmark 0 0
   pub ends : getD bookmark (getD bookmark 0 0 + 1) 0 ≡ w .to
 
-pub record Tight (bookmark : List ℕ) (w : Walk) : Type 0 where
+pub record Tight (bookmark : List ℕ) (w : Place) : Type 0 where
   pub begins : (w .tight ≡ 0 → ⊥) → Beginning bookmark w
 
 -- what the side s of v says of the ways ws that go on from v: before the bookmark (2) none; else the rest decides, by s
-pub record Beside (bookmark : List ℕ) (w : Walk) (v s : ℕ) : Type 0 where
+pub record Beside (bookmark : List ℕ) (w : Place) (v s : ℕ) : Type 0 where
   pub skipped : s ≡ 2 → (ws : List (List ℕ)) → onward (w .tight) (restOf bookmark (w .len)) (map (_∷_ v) ws) ≡ []
   pub on : (s ≡ 2 → ⊥) → (ws : List (List ℕ)) → onward (w .tight) (restOf bookmark (w .len)) (map (_∷_ v) ws) ≡ map (_∷_ v) (onward s (restOf bookmark (w .len + 1)) ws)
   pub same : (s ≡ 2 → ⊥) → (s ≡ 0 → ⊥) → (w .tight ≡ 0 → ⊥) × (v ≡ getD bookmark (w .len + 1) 0)

@@ -7,7 +7,6 @@ use lib.Dec.{ltb, eqb}
 use lib.Seq.{paste}
 use Rattle.ways.specs.Graph.{pick}
 use Rattle.search.specs.Face.{size}
-use Rattle.search.specs.declared.walk.Walk.{Walk}
 use Rattle.search.specs.declared.walk.Found.{Found}
 
 -- so many records are written, whether there was one more (1), and the cells
@@ -39,14 +38,14 @@ recordWith chain len [] = set chain 0 (len - 1)
 recordWith chain len (v ∷ w) = recordWith (set chain (len + 1) v) (len + 1) w
 
 -- there are cells for the records, and in a record for the hops; and nothing is noted yet
-pub record Room (out chain : List ℕ) (w : Walk) (hops : ℕ) (found : Found) : Type 0 where
-  pub room : w .room * size ≤ length out
+pub record Room (out chain : List ℕ) (room len hops : ℕ) (found : Found) : Type 0 where
+  pub cells : room * size ≤ length out
   pub long : length chain ≡ size
-  pub behind : w .len ≤ hops
+  pub behind : len ≤ hops
   pub short : hops + 1 < size
   pub none : found .more ≡ 0
 
 -- what handing over does: the chain's record with v behind the chain so far, and To at the end
-pub record Handed (out out′ chain : List ℕ) (w : Walk) (v hops : ℕ) (found found′ : Found) : Type 0 where
+pub record Handed (out out′ chain : List ℕ) (to room len v hops : ℕ) (found found′ : Found) : Type 0 where
   pub trail : found′ .trail ≡ found .trail
-  pub right : page found′ out′ ≡ emit (w .room) (page found out) (set (set (set chain 0 hops) (w .len + 1) v) (hops + 1) (w .to))
+  pub right : page found′ out′ ≡ emit room (page found out) (set (set (set chain 0 hops) (len + 1) v) (hops + 1) to)

@@ -11,7 +11,7 @@ use Rattle.search.specs.Face.{size}
 use Rattle.search.specs.Pages.{Page, page, emits, recordWith}
 use Rattle.search.specs.Bookmarks.{restOf, onward, Tight}
 use Rattle.search.specs.Barriers.{Hold, trailRoom, Barred}
-use Rattle.search.specs.declared.walk.Walk.{Walk}
+use Rattle.search.specs.Places.{Place}
 use Rattle.search.specs.declared.walk.Found.{Found}
 
 -- the first n persons of the chain, the last first
@@ -23,13 +23,15 @@ seenOf chain (suc n) = getD chain (suc n) 0 ∷ seenOf chain n
 pub record Marked (marks : List Bool) (seen : List ℕ) : Type 0 where
   pub each : (v : ℕ) → v < persons → getD marks v false ≡ among v seen
 
--- what both functions ask: a graph, a person, marks of those in the chain, cells for the hops left, barriers that hold
-pub record Ready (rows targets bookmark : List ℕ) (marks : List Bool) (out barriers trail chain : List ℕ) (w : Walk) (at : ℕ) (found : Found) : Type 0 where
+-- what both functions ask: a graph, a person, marks of those in the chain, cells for the hops left and zeros in them,
+-- barriers that hold
+pub record Ready (rows targets bookmark : List ℕ) (marks : List Bool) (chain out barriers trail : List ℕ) (w : Place) (at : ℕ) (found : Found) : Type 0 where
   pub graph : Compact rows targets
   pub place : at < persons
   pub wide : length marks ≡ persons
   pub marked : Marked marks (seenOf chain (w .len))
   pub long : length chain ≡ size
+  pub blank : (i : ℕ) → w .len < i → getD chain i 0 ≡ 0
   pub some : 1 ≤ w .left
   pub short : w .len + w .left < size
   pub room : w .room * size ≤ length out
@@ -40,29 +42,35 @@ pub record Ready (rows targets bookmark : List ℕ) (marks : List Bool) (out bar
   pub none : found .more ≡ 0
 
 -- the ways on from the person at, who stands last in the chain
-abbrev pub following : List ℕ → List ℕ → List ℕ → List ℕ → Walk → ℕ → List (List ℕ)
+abbrev pub following : List ℕ → List ℕ → List ℕ → List ℕ → Place → ℕ → List (List ℕ)
 following rows targets bookmark chain w at = onward (w .tight) (restOf bookmark (w .len)) (ways (graphOf rows targets) (w .to) (w .left) (seenOf chain (w .len)) at)
 
 -- the ways on whose next person is v
-abbrev pub through : List ℕ → List ℕ → List ℕ → List ℕ → Walk → ℕ → List (List ℕ)
+abbrev pub through : List ℕ → List ℕ → List ℕ → List ℕ → Place → ℕ → List (List ℕ)
 through rows targets bookmark chain w v = onward (w .tight) (restOf bookmark (w .len)) (by (w .to) (seenOf chain (w .len)) (ways (graphOf rows targets) (w .to) (w .left - 1)) v)
 
 -- the records of the chain so far with each of the ways behind it
-abbrev pub handed : List ℕ → Walk → Page → List (List ℕ) → Page
+abbrev pub handed : List ℕ → Place → Page → List (List ℕ) → Page
 handed chain w s ws = emits (w .room) s (map (recordWith chain (w .len)) ws)
 
 -- where the search stands once v is in the chain, on the side s of the bookmark
-abbrev pub next : Walk → ℕ → Walk
+abbrev pub next : Place → ℕ → Place
 next w s = record { to = w .to; tight = s; room = w .room; len = w .len + 1; left = w .left - 1 }
 
--- going through a person's links hands over the ways on from him, and leaves the marks as they were
-pub record GoneThrough (rows targets bookmark : List ℕ) (marks marks′ : List Bool) (out out′ barriers barriers′ trail trail′ chain : List ℕ) (w : Walk) (at : ℕ) (found found′ : Found) : Type 0 where
+-- what was found so far, and nothing noted
+abbrev pub noted : Found → Found
+noted f = record { count = f .count; more = 0; trail = f .trail }
+
+-- going through a person's links hands over the ways on from him, and leaves the marks and the chain as they were
+pub record GoneThrough (rows targets bookmark : List ℕ) (marks marks′ : List Bool) (chain chain′ out out′ barriers barriers′ trail trail′ : List ℕ) (w : Place) (at : ℕ) (found found′ : Found) : Type 0 where
   pub same : marks′ ≡ marks
+  pub whole : chain′ ≡ chain
   pub right : page found′ out′ ≡ handed chain w (page found out) (following rows targets bookmark chain w at)
   pub barred : Barred (graphOf rows targets) (w .to) (seenOf chain (w .len)) (w .left) barriers barriers′ trail trail′ (found .trail) (found′ .trail)
 
 -- entering v hands over the ways on whose next person is v
-pub record Entered (rows targets bookmark : List ℕ) (marks marks′ : List Bool) (out out′ barriers barriers′ trail trail′ chain : List ℕ) (w : Walk) (v : ℕ) (found found′ : Found) : Type 0 where
+pub record Entered (rows targets bookmark : List ℕ) (marks marks′ : List Bool) (chain chain′ out out′ barriers barriers′ trail trail′ : List ℕ) (w : Place) (v : ℕ) (found found′ : Found) : Type 0 where
   pub same : marks′ ≡ marks
+  pub whole : chain′ ≡ chain
   pub right : page found′ out′ ≡ handed chain w (page found out) (through rows targets bookmark chain w v)
   pub barred : Barred (graphOf rows targets) (w .to) (seenOf chain (w .len)) (w .left) barriers barriers′ trail trail′ (found .trail) (found′ .trail)

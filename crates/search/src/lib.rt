@@ -13,6 +13,7 @@ mod walk;
 use compact::LINKS;
 use compact::PERSONS;
 use compact::STARTS;
+use walk::Ask;
 use walk::Found;
 use walk::Walk;
 
@@ -57,17 +58,13 @@ pub fn list(
         targets,
         bookmark,
         &mut marks,
+        &mut chain,
         out,
         &mut barriers,
         &mut trail,
-        chain,
-        Walk {
-            to: to,
-            tight: started,
-            room: room,
-            len: 1,
-            left: hops,
-        },
+        Ask { to: to, room: room },
+        Walk { len: 1, left: hops },
+        started,
         at,
         Found {
             count: 0,

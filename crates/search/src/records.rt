@@ -6,6 +6,7 @@ ghost use lib.Seq.{paste};
 ghost use Rattle.search.specs.Face.{size};
 ghost use Rattle.search.specs.Pages.{Room, Handed};
 use crate::RECORD;
+use crate::walk::Ask;
 use crate::walk::Found;
 use crate::walk::Walk;
 
@@ -26,16 +27,17 @@ fn put(out: &mut [u32], at: usize, chain: [u32; RECORD])
 pub fn hand_over(
     out: &mut [u32],
     chain: [u32; RECORD],
+    ask: Ask,
     w: Walk,
     v: u32,
     hops: usize,
     found: Found,
 ) -> Found
-    requires { ⌜ Room (now out) chain w hops found ⌝ }
-    ensures { λ r. ⌜ Handed (now (out .entry)) (now (out .exit)) chain w v hops found r ⌝ }
+    requires { ⌜ Room (now out) chain (ask .room) (w .len) hops found ⌝ }
+    ensures { λ r. ⌜ Handed (now (out .entry)) (now (out .exit)) chain (ask .to) (ask .room) (w .len) v hops found r ⌝ }
 {
     let count = found.count;
-    if count >= w.room {
+    if count >= ask.room {
         return Found {
             count: count,
             more: 1,
@@ -46,7 +48,7 @@ pub fn hand_over(
     put(out, at, chain);
     out[at] = hops as u32;
     out[at + (w.len + 1)] = v;
-    out[at + (hops + 1)] = w.to;
+    out[at + (hops + 1)] = ask.to;
     Found {
         count: count + 1,
         more: 0,

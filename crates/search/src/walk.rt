@@ -1,5 +1,6 @@
 // The cycle: entering a person, and going through that person's links.
 ghost use Prim.Native.Nat.{_<_};
+ghost use Rattle.search.specs.Places.{placeOf};
 ghost use Rattle.search.specs.Walks.{Ready, Entered, GoneThrough};
 use crate::RECORD;
 use compact::LINKS;
@@ -9,17 +10,16 @@ use compact::STARTS;
 // Each entry that stands on the trail has raised its person's barrier, and none passes the hops: never too few.
 pub const TRAIL: usize = 8192;
 
-// The plain numbers of a place in the search. No bool, so that there is no padding: it is copied with each step.
-pub struct Walk {
-    // whom the chains lead to
+// What stays the same all through a search: whom the chains lead to, and how many records there is room for.
+// Numbers go down in small structs of two, and no bool among them: such a struct goes in registers.
+pub struct Ask {
     pub to: u32,
-    // 0 once the chain has left the bookmark, and in a fresh start
-    pub tight: u32,
-    // records that there is room for
     pub room: usize,
-    // persons in the chain so far
+}
+
+// How far the chain has come: the persons in it, and the hops still allowed.
+pub struct Walk {
     pub len: usize,
-    // hops still allowed
     pub left: usize,
 }
 
@@ -31,33 +31,35 @@ pub struct Found {
     pub trail: usize,
 }
 
-// Tries v as the next person of the chain.
+// Tries v as the next person of the chain. `tight` is 0 once the chain has left the bookmark, and in a fresh start.
 pub fn enter(
     rows: &[u16; STARTS],
     targets: &[u16; LINKS],
     bookmark: &[u32],
     marks: &mut [bool; PERSONS],
+    chain: &mut [u32; RECORD],
     out: &mut [u32],
     barriers: &mut [u8; PERSONS],
     trail: &mut [u16; TRAIL],
-    chain: [u32; RECORD],
+    ask: Ask,
     w: Walk,
+    tight: u32,
     v: u32,
     found: Found,
 ) -> Found
-    requires { ⌜ Ready (now rows) (now targets) (now bookmark) (now marks) (now out) (now barriers) (now trail) chain w v found ⌝ }
-    ensures { λ r. ⌜ Entered (now (rows .entry)) (now (targets .entry)) (now (bookmark .entry)) (now (marks .entry)) (now (marks .exit)) (now (out .entry)) (now (out .exit)) (now (barriers .entry)) (now (barriers .exit)) (now (trail .entry)) (now (trail .exit)) chain w v found r ⌝ }
+    requires { ⌜ Ready (now rows) (now targets) (now bookmark) (now marks) (now chain) (now out) (now barriers) (now trail) (placeOf ask w tight) v found ⌝ }
+    ensures { λ r. ⌜ Entered (now (rows .entry)) (now (targets .entry)) (now (bookmark .entry)) (now (marks .entry)) (now (marks .exit)) (now (chain .entry)) (now (chain .exit)) (now (out .entry)) (now (out .exit)) (now (barriers .entry)) (now (barriers .exit)) (now (trail .entry)) (now (trail .exit)) (placeOf ask w tight) v found r ⌝ }
 {
-    let side = crate::bookmark::beside(bookmark, w, v);
+    let side = crate::bookmark::beside(bookmark, ask, w, tight, v);
     if side == 2 {
         return found;
     }
     // To comes before the mark: where From is To as well, this closes a ring.
-    if v == w.to {
+    if v == ask.to {
         if side != 0 {
             return found;
         }
-        return crate::records::hand_over(out, chain, w, v, w.len, found);
+        return crate::records::hand_over(out, *chain, ask, w, v, w.len, found);
     }
     let at = v as usize;
     if marks[at] {
@@ -69,33 +71,39 @@ pub fn enter(
     }
     // The last hop is no search: the barrier says that To is next.
     if left == 1 && side == 0 {
-        return crate::records::hand_over(out, chain, w, v, w.len + 1, found);
+        return crate::records::hand_over(out, *chain, ask, w, v, w.len + 1, found);
     }
     let len = w.len + 1;
-    let mut next = chain;
-    next[len] = v;
+    chain[len] = v;
     marks[at] = true;
     let got = go_through(
         rows,
         targets,
         bookmark,
         marks,
+        chain,
         out,
         barriers,
         trail,
-        next,
+        Ask {
+            to: ask.to,
+            room: ask.room,
+        },
         Walk {
-            to: w.to,
-            tight: side,
-            room: w.room,
             len: len,
             left: left,
         },
+        side,
         at,
-        found,
+        Found {
+            count: found.count,
+            more: 0,
+            trail: found.trail,
+        },
     );
     marks[at] = false;
-    let height = crate::barriers::settle(barriers, trail, at, side, w.left, found, got);
+    chain[len] = 0;
+    let height = crate::barriers::settle(barriers, trail, at, side, left + 1, found, got);
     Found {
         count: got.count,
         more: got.more,
@@ -109,31 +117,39 @@ pub fn go_through(
     targets: &[u16; LINKS],
     bookmark: &[u32],
     marks: &mut [bool; PERSONS],
+    chain: &mut [u32; RECORD],
     out: &mut [u32],
     barriers: &mut [u8; PERSONS],
     trail: &mut [u16; TRAIL],
-    chain: [u32; RECORD],
+    ask: Ask,
     w: Walk,
+    tight: u32,
     at: usize,
     found: Found,
 ) -> Found
-    requires { ⌜ Ready (now rows) (now targets) (now bookmark) (now marks) (now out) (now barriers) (now trail) chain w at found ⌝ }
-    ensures { λ r. ⌜ GoneThrough (now (rows .entry)) (now (targets .entry)) (now (bookmark .entry)) (now (marks .entry)) (now (marks .exit)) (now (out .entry)) (now (out .exit)) (now (barriers .entry)) (now (barriers .exit)) (now (trail .entry)) (now (trail .exit)) chain w at found r ⌝ }
+    requires { ⌜ Ready (now rows) (now targets) (now bookmark) (now marks) (now chain) (now out) (now barriers) (now trail) (placeOf ask w tight) at found ⌝ }
+    ensures { λ r. ⌜ GoneThrough (now (rows .entry)) (now (targets .entry)) (now (bookmark .entry)) (now (marks .entry)) (now (marks .exit)) (now (chain .entry)) (now (chain .exit)) (now (out .entry)) (now (out .exit)) (now (barriers .entry)) (now (barriers .exit)) (now (trail .entry)) (now (trail .exit)) (placeOf ask w tight) at found r ⌝ }
 {
     let mut i = rows[at] as usize;
     let end = rows[at + 1] as usize;
-    let mut got = found;
+    let mut got = Found {
+        count: found.count,
+        more: 0,
+        trail: found.trail,
+    };
     while i < end {
         got = enter(
             rows,
             targets,
             bookmark,
             marks,
+            chain,
             out,
             barriers,
             trail,
-            chain,
+            ask,
             w,
+            tight,
             targets[i] as u32,
             got,
         );

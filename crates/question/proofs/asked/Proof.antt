@@ -1,5 +1,5 @@
 -- `asked` meets its contract: the file's first fault decides before the question's.
-use mathlib.Core.Path.{_≡_, sym, ap, _∙_}
+use mathlib.Core.Path.{sym, ap, _∙_}
 use Rattle.linkfile.specs.Answers.{verdictSaid}
 use Rattle.linkfile.proofs.Passed.{refused-verdict, passed-verdict}
 use borrow.Author.Needs.{needs}

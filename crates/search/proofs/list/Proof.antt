@@ -7,11 +7,13 @@ use Rattle.search.proofs.list.Statement.{statement}
 use Rattle.search.proofs.list.Tie as tie
 
 go-through-requires : tie.Need-go-through-requires
-go-through-requires c κs = list-ready (c .before .before .before .before .before .before .before .pre) _ _ (length-replicate {A = ℕ} 8192 0)
+go-through-requires c κs =
+    let at-start = c .before .before .before .before .before .before .before .before in
+    list-ready (at-start .pre) _ _ (length-replicate {A = ℕ} 8192 0)
 
 returns : tie.Need-returns
 returns c =
-    let at-start = c .before .before .before .before .before .before .before .before .before .before in
+    let at-start = c .before .before .before .before .before .before .before .before .before .before .before in
     list-answered (at-start .pre) (c .before .before .go-through .ensures)
 
 pub list-spec : {M : Type 1} → statement M

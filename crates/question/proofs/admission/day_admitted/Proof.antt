@@ -1,5 +1,5 @@
 -- `day_admitted` meets its contract: undated, or in the window and of the meaning asked.
-use borrow.Author.Tests.{eq-eqb, ne-eqb, not-true, not-false}
+use borrow.Author.Tests.{eq-eqb, ne-eqb, le-leb, lt-leb}
 use Rattle.linkfile.proofs.Counted.{place-is}
 use Rattle.question.specs.Admission.{dayAdmitted}
 use Rattle.question.proofs.Classed.{fed-lies}
@@ -17,18 +17,28 @@ returns-2 : tie.Need-returns-2
 unfolding dayAdmitted
 returns-2 c =
     let at-start = c .before .before .before .before .before .before in
-    rw (← place-is (at-start .args .link) (at-start .pre .laid) (c .before .before .before .before .place .ensures), ← c .before .before .before .day .ensures, ne-eqb _ 0 (c .before .before .if1 .left), ← c .before .within .ensures, not-true (c .before .within .result) (c .if2 .taken))
-
-meaning-requires : tie.Need-meaning-requires
-meaning-requires c κs = fed-lies (c .before .before .before .before .before .before .before .pre) (c .before .before .before .before .before .place .ensures) (c .feed .ensures)
+    rw (← place-is (at-start .args .link) (at-start .pre .laid) (c .before .before .before .before .place .ensures), ← c .before .before .before .day .ensures, ne-eqb _ 0 (c .before .before .if1 .left), lt-leb _ _ (c .if2 .taken))
 
 returns-3 : tie.Need-returns-3
 unfolding dayAdmitted
 returns-3 c =
+    let at-start = c .before .before .before .before .before .before .before .before in
+    rw (← place-is (at-start .args .link) (at-start .pre .laid) (c .before .before .before .before .before .before .place .ensures), ← c .before .before .before .before .before .day .ensures, ne-eqb _ 0 (c .before .before .before .before .if1 .left), le-leb _ _ (c .before .before .if2 .left), lt-leb _ _ (c .if3 .taken))
+
+meaning-requires : tie.Need-meaning-requires
+meaning-requires c κs =
     let at-start = c .before .before .before .before .before .before .before .before .before in
     let at-place = c .before .before .before .before .before .before .before .place in
-    let at-within = c .before .before .before .before .within in
-    rw (← place-is (at-start .args .link) (at-start .pre .laid) (at-place .ensures), ← c .before .before .before .before .before .before .day .ensures, ne-eqb _ 0 (c .before .before .before .before .before .if1 .left), ← at-within .ensures, not-false (at-within .result) (c .before .before .before .if2 .left), ← c .before .before .feed .ensures, ← c .before .meaning .ensures)
+    fed-lies (at-start .pre) (at-place .ensures) (c .feed .ensures)
+
+returns-4 : tie.Need-returns-4
+unfolding dayAdmitted
+returns-4 c =
+    let at-start = c .before .before .before .before .before .before .before .before .before .before .before in
+    let at-place = c .before .before .before .before .before .before .before .before .before .place in
+    let at-day = c .before .before .before .before .before .before .before .before .day in
+    let at-if1 = c .before .before .before .before .before .before .before .if1 in
+    rw (← place-is (at-start .args .link) (at-start .pre .laid) (at-place .ensures), ← at-day .ensures, ne-eqb _ 0 (at-if1 .left), le-leb _ _ (c .before .before .before .before .before .if2 .left), le-leb _ _ (c .before .before .before .if3 .left), ← c .before .before .feed .ensures, ← c .before .meaning .ensures)
 
 pub day-admitted-spec : {M : Type 1} → statement M
 day-admitted-spec =
@@ -37,9 +47,9 @@ day-admitted-spec =
     (λ c κs. search needs)
     (λ c κs. search needs)
     returns
-    (λ c κs. search needs)
     returns-2
+    returns-3
     (λ c κs. search needs)
     (λ c. search needs)
     meaning-requires
-    returns-3)
+    returns-4)

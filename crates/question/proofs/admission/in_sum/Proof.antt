@@ -1,5 +1,5 @@
 -- `in_sum` meets its contract: the class that the match gave is the kind's.
-use mathlib.Core.Path.{_≡_, sym, ap, _∙_}
+use mathlib.Core.Path.{sym, ap, _∙_}
 use Rattle.linkfile.specs.Kinds.{classSaid}
 use Rattle.question.proofs.Classed.{one-class}
 use borrow.Author.Needs.{needs}

@@ -1,8 +1,7 @@
 -- `person_fault` meets its contract: the ends decide before the person, and the person before the rest.
-use mathlib.Core.Path.{_≡_, sym, ap, _∙_}
 use lib.Dec.{ltb}
 use borrow.Author.Tests.{lt-ltb, le-ltb}
-use Rattle.linkfile.specs.Verdict.{Fault, firstOf, unless}
+use Rattle.linkfile.specs.Verdict.{unless}
 use Rattle.question.specs.Asked.{personFault, restFault}
 use Rattle.question.proofs.Refused.{ends-first}
 use borrow.Author.Needs.{needs}

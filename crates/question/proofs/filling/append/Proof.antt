@@ -1,10 +1,10 @@
 -- `append` meets its contract. The loop's invariant: what is written, and what the links still to come add, are together what the row adds.
-use mathlib.Core.Path.{_≡_, refl, sym, ap, _∙_}
+use mathlib.Core.Path.{sym, _∙_}
 use mathlib.Core.Logic.{⊎-elim}
-use Prim.Native.Nat.{_+_, _-_}
+use Prim.Native.Nat.{_-_}
 use native.Mathlib.Omega.{arith}
 use Rattle.question.proofs.Classed.{target-is}
-use Rattle.question.proofs.Growing.{Appending, append-lies, appending-starts, appending-link, appending-fed, appending-person, appending-keeps, appending-adds, appending-ends, appended-none}
+use Rattle.question.proofs.Growing.{Appending, append-lies, appending-starts, appending-fed, appending-person, appending-keeps, appending-adds, appending-ends, appended-none}
 use Rattle.question.proofs.filling.append.Statement.{statement}
 use Rattle.question.proofs.filling.append.Tie as tie
 

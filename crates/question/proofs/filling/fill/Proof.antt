@@ -1,7 +1,6 @@
 -- `fill` meets its contract. The loop's invariant: the rows of all persons so far are there.
-use mathlib.Core.Path.{_≡_, refl, sym, ap, _∙_}
-use Prim.Native.Nat.{_+_, _-_}
-use lib.ListN.{length-set}
+use mathlib.Core.Path.{sym, _∙_}
+use Prim.Native.Nat.{_-_}
 use native.Mathlib.Omega.{arith}
 use Rattle.question.proofs.Growing.{Filling, filling-starts, filling-on, filling-adds, filling-ends}
 use Rattle.question.proofs.filling.fill.Statement.{statement}

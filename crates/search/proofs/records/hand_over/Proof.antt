@@ -15,12 +15,12 @@ put-requires c κs = hand-fits (c .before .before .before .before .pre) (c .befo
 slice-write-out-2 : tie.Need-slice-write-out-2
 slice-write-out-2 c =
     let at-start = c .before .before .before .before .before .before .before .before in
-    simp length-set (omega (arith, c .before .before .before .put .kept .0, at-start .pre .room, at-start .pre .behind, at-start .pre .short, c .before .before .before .before .before .if1 .left))
+    simp length-set (omega (arith, c .before .before .before .put .kept .0, at-start .pre .cells, at-start .pre .behind, at-start .pre .short, c .before .before .before .before .before .if1 .left))
 
 slice-write-out-3 : tie.Need-slice-write-out-3
 slice-write-out-3 c =
     let at-start = c .before .before .before .before .before .before .before .before in
-    simp length-set (omega (arith, c .before .before .before .put .kept .0, at-start .pre .room, at-start .pre .behind, at-start .pre .short, c .before .before .before .before .before .if1 .left))
+    simp length-set (omega (arith, c .before .before .before .put .kept .0, at-start .pre .cells, at-start .pre .behind, at-start .pre .short, c .before .before .before .before .before .if1 .left))
 
 returns-2 : tie.Need-returns-2
 returns-2 c =

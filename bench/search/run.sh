@@ -1,0 +1,51 @@
+#!/usr/bin/env bash
+# Measures the search against a C++ baseline and prints ratios. Never part of pass or fail.
+# The face of the search is exported in a copy of the crates under target/bench, not in the repository.
+set -euo pipefail
+here=$(cd "$(dirname "$0")" && pwd)
+root=$(cd "$here/../.." && pwd)
+copy=$root/target/bench/search
+mkdir -p "$copy/crates/bench_export/src"
+for crate in ways compact search; do
+    rm -rf "$copy/crates/$crate"
+    cp -r "$root/crates/$crate" "$copy/crates/$crate"
+done
+cat >"$copy/crates.txt" <<'END'
+ways:
+compact: ways
+search: ways compact
+bench_export: search compact ways
+END
+cat >"$copy/crates/bench_export/src/lib.rt" <<'END'
+// The face of the search for C++, for the benchmark alone.
+ghost use Rattle.search.specs.Face.{Asked};
+
+use compact::LINKS;
+use compact::PERSONS;
+use compact::STARTS;
+
+#[no_mangle]
+pub extern "C" fn bench_list(
+    rows: &[u16; STARTS],
+    targets: &[u16; LINKS],
+    fewest: &[u8; PERSONS],
+    from: u32,
+    to: u32,
+    hops: usize,
+    started: u32,
+    bookmark: &[u32],
+    out: &mut [u32],
+) -> usize
+    requires { ⌜ Asked (now rows) (now targets) (now fewest) from to hops started (now bookmark) ⌝ }
+{
+    let r = search::list(rows, targets, fewest, from, to, hops, started, bookmark, out);
+    if r.more != 0 {
+        return std::num::wrapping_add_usize(r.count, 4611686018427387904);
+    }
+    r.count
+}
+END
+(cd "$copy" && rt staticlib bench_export >build.log 2>&1) || { tail -20 "$copy/build.log"; exit 1; }
+cxx=${CXX:-g++}
+"$cxx" -std=c++17 -O3 -pthread -I"$here" "$here/drive.cpp" "$here/baseline.cpp" "$copy/target/staticlib/libbench_export.a" -o "$copy/drive"
+"$copy/drive"

@@ -1,0 +1,3 @@
+pub mod Stepping
+pub mod Settled
+pub mod OneResult

@@ -1,0 +1,141 @@
+//! Questions to ask: the customer's Q, random ones, and a catalogue of faults of a question with the refusal that the
+//! customer's table gives each.
+
+use crate::checker::{Refusal, LAST_DAY};
+use crate::files::random_day;
+use crate::lister::Question;
+use crate::random::Random;
+
+/// Q of the six-person file.
+pub const Q: Question = Question {
+    from: 0,
+    to: 5,
+    hops: 4,
+    classes: 15,
+    meaning: 1,
+    first_day: 1,
+    last_day: LAST_DAY,
+};
+
+/// From the first person to the last one, all links admitted that are undated.
+pub fn first_to_last(persons: usize, hops: u32) -> Question {
+    Question {
+        to: persons as u32 - 1,
+        hops,
+        ..Q
+    }
+}
+
+/// A question that passes over `n` persons, n at least 2: hops 1 to 8, any classes, windows open, narrow, at the limits.
+pub fn random_question(random: &mut Random, n: usize) -> Question {
+    let from = random.below(n) as u32;
+    let mut to = random.below(n) as u32;
+    while to == from {
+        to = random.below(n) as u32;
+    }
+    let (first_day, last_day) = random_window(random);
+    Question {
+        from,
+        to,
+        hops: random.between(1, 8) as u32,
+        classes: if random.chance(1, 2) {
+            15
+        } else {
+            random.between(1, 15) as u32
+        },
+        meaning: random.between(1, 2) as u32,
+        first_day,
+        last_day,
+    }
+}
+
+fn random_window(random: &mut Random) -> (u32, u32) {
+    if random.chance(1, 2) {
+        return (1, LAST_DAY);
+    }
+    let one = random_day(random).max(1);
+    let other = random_day(random).max(1);
+    (one.min(other), one.max(other))
+}
+
+/// A number of a question set to a wrong value. The numbers are counted from 0 in the question's order; 7 is the extra
+/// person of fewest hops.
+#[derive(Clone, Copy, Debug)]
+pub struct QuestionFault {
+    pub number_of_question: usize,
+    pub value: u32,
+    pub refusal: Refusal,
+}
+
+impl QuestionFault {
+    /// Where the fault stands in the order: 10 by its place, then by number.
+    pub fn rank(&self) -> (u32, u32) {
+        (self.refusal.number, self.refusal.place)
+    }
+}
+
+/// The seven numbers in order, and the extra person.
+pub type Numbers = [u32; 8];
+
+pub fn question_of(numbers: &Numbers) -> Question {
+    Question {
+        from: numbers[0],
+        to: numbers[1],
+        hops: numbers[2],
+        classes: numbers[3],
+        meaning: numbers[4],
+        first_day: numbers[5],
+        last_day: numbers[6],
+    }
+}
+
+pub fn numbers_of(question: &Question, person: u32) -> Numbers {
+    [
+        question.from,
+        question.to,
+        question.hops,
+        question.classes,
+        question.meaning,
+        question.first_day,
+        question.last_day,
+        person,
+    ]
+}
+
+/// Every fault of the catalogue for a question like Q over `n` persons. Any two at different numbers stay faults
+/// together, and the one of lower rank is the verdict.
+pub fn question_faults(n: u32, from: u32) -> Vec<QuestionFault> {
+    let above = [n, n + 1, n + 256, 65_536, 1 << 31, u32::MAX];
+    let not_hops = [0, 9, 10, 256 + 4, 65_536 + 4, (1 << 31) + 4, u32::MAX];
+    let not_classes = [0, 16, 17, 31, 256 + 15, 65_536 + 1, 1 << 31, u32::MAX];
+    let not_meaning = [0, 3, 4, 256 + 1, 65_536 + 2, (1 << 31) + 1, u32::MAX];
+    let not_first = [0, LAST_DAY + 1, 1 << 31, u32::MAX];
+    let not_last = [0, LAST_DAY + 1, 1 << 24, (1 << 31) + 9, u32::MAX];
+    let mut faults = vec![];
+    note(&mut faults, 0, &above, 10, 0);
+    note(&mut faults, 1, &above, 10, 1);
+    note(&mut faults, 7, &above, 10, 2);
+    note(&mut faults, 1, &[from], 11, 0);
+    note(&mut faults, 2, &not_hops, 12, 0);
+    note(&mut faults, 3, &not_classes, 13, 0);
+    note(&mut faults, 4, &not_meaning, 14, 0);
+    note(&mut faults, 5, &not_first, 15, 0);
+    note(&mut faults, 6, &not_last, 15, 0);
+    faults
+}
+
+fn note(
+    faults: &mut Vec<QuestionFault>,
+    number_of_question: usize,
+    values: &[u32],
+    number: u32,
+    place: u32,
+) {
+    for &value in values {
+        faults.push(QuestionFault {
+            number_of_question,
+            value,
+            refusal: Refusal { number, place },
+        });
+    }
+}
