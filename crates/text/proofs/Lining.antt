@@ -120,7 +120,7 @@ chains-one cells first (suc n) =
     let e : suc first + n ≡ first + suc n = omega arith in
     ap (λ (L : List (List ℕ)). chainAt cells first ∷ L) (chains-one cells (suc first) n ∙ ap (λ (m : ℕ). chainsAt cells (suc first) n ++ chainAt cells m ∷ []) e)
 
-lines-append : (L M : List (List ℕ)) → chainLines (L ++ M) ≡ chainLines L ++ chainLines M
+pub lines-append : (L M : List (List ℕ)) → chainLines (L ++ M) ≡ chainLines L ++ chainLines M
 unfolding chainLines
 lines-append [] M = refl
 lines-append (c ∷ L) M = rw (lines-append L M, append-assoc)

@@ -1,0 +1,3 @@
+pub mod Bounded
+pub mod Lined
+pub mod Going

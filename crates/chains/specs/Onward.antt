@@ -1,0 +1,42 @@
+-- Going on by a portion: what is still to be printed. Definitions only.
+use mathlib.Core.Path.{_≡_}
+use mathlib.Core.List.{List, _++_}
+use mathlib.Core.Bool.{true, false}
+use Prim.Native.Nat.{ℕ, _+_, _≤_, _<_}
+use lib.ListN.{length}
+use Rattle.linkfile.specs.Verdict.{sound}
+use Rattle.ways.specs.Portions.{after}
+use Rattle.question.specs.declared.Question.{Question}
+use Rattle.question.specs.Asked.{askedFault}
+use Rattle.portion.specs.Listing.{recordSize, listingFor, Start, after as behind, startsAfter, startFault}
+use Rattle.portion.specs.Answers.{Answer, listed, refused}
+use Rattle.text.specs.Decimal.{worth, Digits}
+use Rattle.text.specs.Lines.{chainLines, chainsAt, endLine, refusalLine, Records}
+use Rattle.chains.specs.Program.{textFor}
+
+-- the chains that are still to come
+abbrev pub rest : List ℕ → Question → Start → List (List ℕ)
+rest file q start = after (startsAfter start) (listingFor file q)
+
+-- what is still to be printed from a start on, where so many chains were printed before
+abbrev pub toCome : List ℕ → Question → Start → ℕ → List ℕ
+toCome file q start before = textFor (askedFault file q) (rest file q start) before
+
+-- the start is fresh or behind a chain of the listing, and the chains up to it were counted
+pub record OnTheWay (file : List ℕ) (q : Question) (start : Start) (bookmark counted cells : List ℕ) : Type 0 where
+  pub digits : Digits counted
+  pub room : recordSize ≤ length cells
+  pub whole : length bookmark ≡ recordSize
+  pub passing : startFault (listingFor file q) start ≡ sound
+  pub sum : worth counted + length (rest file q start) ≡ length (listingFor file q)
+
+-- the lines of the chains in the cells are printed next; then the last line, or what is to come from the last chain on, which is less
+abbrev pub WentOn : List ℕ → Question → Start → ℕ → List ℕ → List ℕ → List ℕ → Answer → Type 0
+WentOn file q start before bookmark′ counted′ cells′ (refused number place) = toCome file q start before ≡ refusalLine number place
+WentOn file q start before bookmark′ counted′ cells′ (listed count true) =
+    Digits counted′ × Records cells′ count × (toCome file q start before ≡ chainLines (chainsAt cells′ 0 count) ++ endLine (worth counted′))
+WentOn file q start before bookmark′ counted′ cells′ (listed count false) =
+    OnTheWay file q (behind bookmark′) bookmark′ counted′ cells′
+    × Records cells′ count
+    × (toCome file q start before ≡ chainLines (chainsAt cells′ 0 count) ++ toCome file q (behind bookmark′) (worth counted′))
+    × (length (rest file q (behind bookmark′)) < length (rest file q start))
