@@ -16,7 +16,7 @@ chain-head : (c rest : List ℕ) → Fits recordSize c → chainOf (recordOf rec
 unfolding chainOf recordOf
 chain-head [] rest f = absurd (omega (arith, f .some))
 chain-head (p ∷ c) rest f =
-    let zeros = replicate (recordSize - suc (suc (length c))) 0 in
+    let zeros = replicate {A = ℕ} (recordSize - suc (suc (length c))) 0 in
     ap (_∷_ p) (ap (take (length c)) (append-assoc c zeros rest) ∙ take-append-seam c (zeros ++ rest))
 
 hops-head : (c rest : List ℕ) → Fits recordSize c → getD (recordOf recordSize c ++ rest) 0 0 ≤ 8

@@ -14,6 +14,7 @@ use question::Question;
 use reading::Input;
 use reading::QUESTION;
 use text::DIGITS;
+ghost use mathlib.Core.Path.{_≡_};
 ghost use Prim.Native.Nat.{_≤_};
 ghost use lib.ListN.{length};
 ghost use Rattle.text.specs.Decimal.{Digits};
@@ -24,6 +25,19 @@ ghost use Rattle.text.specs.Printed.{longestLine};
 const LIMIT: usize = 53_377;
 // The cells of a portion: 4,096 chains.
 const CELLS: usize = 40_960;
+
+// Zeros for the input, and for the records of a portion. The `ensures` gives the length, which lending them as a slice needs.
+fn input_space() -> [u8; LIMIT]
+    ensures { λ r. ⌜ 53377 ≡ length r ⌝ }
+{
+    [0; LIMIT]
+}
+
+fn record_space() -> [u32; CELLS]
+    ensures { λ r. ⌜ 40960 ≡ length r ⌝ }
+{
+    [0; CELLS]
+}
 
 fn print_refusal(number: u32, place: u32, out: &mut [u8])
     requires { ⌜ longestLine ≤ length (now out) ⌝ }
@@ -100,14 +114,14 @@ fn answer(input: &[u8]) {
     match reading::heard(input) {
         Input::Refused { number, place } => print_refusal(number, place, &mut out),
         Input::Asks(question) => {
-            let mut cells = [0u32; CELLS];
+            let mut cells = record_space();
             list(&input[QUESTION..], question, &mut cells, &mut out);
         }
     }
 }
 
 fn main() {
-    let mut input = [0u8; LIMIT];
+    let mut input = input_space();
     let length = io::read_full(STDIN_FILENO, &mut input);
     answer(&input[..length]);
 }
