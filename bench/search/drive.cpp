@@ -1,16 +1,8 @@
 // Times the proved search and the baseline on the same graphs, one run of each after the other, and prints the ratio of the
 // least times. The two must write the same cells.
 #include "search.h"
-#include <algorithm>
-#include <chrono>
+#include "../plain/measure.hpp"
 #include <cstdio>
-#include <cstdlib>
-#include <cstring>
-#include <pthread.h>
-#include <random>
-#include <vector>
-
-using Links = std::vector<std::vector<int>>;
 
 struct Graph {
     std::vector<uint16_t> rows = std::vector<uint16_t>(1025), targets = std::vector<uint16_t>(4096);
@@ -45,24 +37,6 @@ static size_t ours(const Asked &a, uint32_t *out, size_t cells) {
     return bench_list(a.rows, a.targets, a.fewest, a.from, a.to, a.hops, a.started, a.bookmark, a.bookmark ? 10 : 0, out, cells);
 }
 
-static double seconds() {
-    return std::chrono::duration<double>(std::chrono::steady_clock::now().time_since_epoch()).count();
-}
-
-template <class F, class G> static void least(F f, G g, double &tf, double &tg) {
-    tf = tg = 1e9;
-    double stop = seconds() + 0.4;
-    for (int i = 0; i < 5 || seconds() < stop; ++i) {
-        double a = seconds();
-        f();
-        double b = seconds();
-        g();
-        double c = seconds();
-        tf = std::min(tf, b - a);
-        tg = std::min(tg, c - b);
-    }
-}
-
 static void compare(const char *name, const Graph &g, int from, int to, int hops, size_t room) {
     auto d = g.fewest(to, hops);
     Asked a{g.rows.data(), g.targets.data(), d.data(), uint32_t(from), uint32_t(to), size_t(hops), 0, nullptr};
@@ -75,61 +49,9 @@ static void compare(const char *name, const Graph &g, int from, int to, int hops
            chains ? tx * 1e9 / double(chains) : 0.0, n == m && x == y ? "" : "   DIFFERENT");
 }
 
-static Links all_linked(int n) {
-    Links l(n);
-    for (int p = 0; p < n; ++p)
-        for (int q = 0; q < n; ++q)
-            if (p != q) l[p].push_back(q);
-    return l;
-}
-
-static Links random_links(int n, int m, unsigned seed) {
-    std::mt19937 r(seed);
-    Links l(n);
-    for (int i = 0; i < m; ++i) {
-        int p = int(r() % n), q = int(r() % n);
-        if (p != q) l[p].push_back(q);
-    }
-    return l;
-}
-
-// 0 to b, b to 62 persons all linked with each other and back to b, b to c to t: one chain
-static Links dead_region() {
-    Links l(66);
-    l[0].push_back(1);
-    for (int p = 2; p < 64; ++p) {
-        l[1].push_back(p);
-        l[p].push_back(1);
-        for (int q = 2; q < 64; ++q)
-            if (p != q) l[p].push_back(q);
-    }
-    l[1].push_back(64);
-    l[64].push_back(65);
-    return l;
-}
-
-static void *nothing(void *) { return nullptr; }
-static void *search_once(void *p) {
+static void search_once(void *p) {
     static uint32_t out[400];
     ours(*static_cast<Asked *>(p), out, 400);
-    return nullptr;
-}
-
-// bytes of a painted stack that a thread has written to
-static size_t high_water(void *(*f)(void *), void *p) {
-    const size_t size = 1 << 18;
-    auto *stack = static_cast<unsigned char *>(aligned_alloc(4096, size));
-    memset(stack, 0xa5, size);
-    pthread_attr_t attr;
-    pthread_attr_init(&attr);
-    pthread_attr_setstack(&attr, stack, size);
-    pthread_t t;
-    if (pthread_create(&t, &attr, f, p)) return 0;
-    pthread_join(t, nullptr);
-    size_t low = 0;
-    while (low < size && stack[low] == 0xa5) ++low;
-    free(stack);
-    return size - low;
 }
 
 int main() {
@@ -158,15 +80,8 @@ int main() {
         auto d = dead.fewest(65, 8);
         Asked a{dead.rows.data(), dead.targets.data(), d.data(), 0, 65, 8, 0, nullptr};
         uint32_t x[100], y[100];
-        double tx = 1e9, ty;
-        for (int i = 0; i < 1000; ++i) {
-            double b = seconds();
-            ours(a, x, 100);
-            tx = std::min(tx, seconds() - b);
-        }
-        double b = seconds();
-        distance_only(a, y, 100);
-        ty = seconds() - b;
+        double tx = 1e9, ty = timed([&] { distance_only(a, y, 100); }, 1);
+        for (int i = 0; i < 1000; ++i) tx = std::min(tx, timed([&] { ours(a, x, 100); }, 5));
         printf("%-44s against distances only: ratio %.6f   (%.1f us, %.0f us)\n", "the dead region, 8 hops", tx / ty, tx * 1e6, ty * 1e6);
     }
 
@@ -183,6 +98,6 @@ int main() {
             least([&] { ours(later, x.data(), x.size()); }, [&] { ours(fresh, x.data(), x.size()); }, tx, ty);
             printf("room 40, behind %7zu chains of 64 all linked, against fresh: ratio %.2f   (%.2f us, %.2f us)\n", before, tx / ty, tx * 1e6, ty * 1e6);
         }
-        printf("stack of a search of 8 hops: %zu bytes above an empty thread's\n", high_water(search_once, &fresh) - high_water(nothing, nullptr));
+        printf("stack of a search of 8 hops: %zu bytes\n", high_water(search_once, &fresh));
     }
 }

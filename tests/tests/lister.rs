@@ -5,16 +5,7 @@
 use independent::checker::{refused, LAST_DAY};
 use independent::files;
 use independent::lister::{fewest, listing, record, Question};
-
-const Q: Question = Question {
-    from: 0,
-    to: 5,
-    hops: 4,
-    classes: 15,
-    meaning: 1,
-    first_day: 1,
-    last_day: LAST_DAY,
-};
+use independent::questions::Q;
 
 fn lists(question: Question, chains: &[&[u32]]) {
     let file = files::six_persons().bytes();

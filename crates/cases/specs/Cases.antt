@@ -4,27 +4,18 @@ use mathlib.Core.Bool.{Bool, true, false}
 use mathlib.Core.List.{List, [], _∷_, _++_}
 use Prim.Native.Nat.{ℕ}
 use lib.ListN.{length, drop}
-use Rattle.linkfile.specs.Format.{personCount}
-use Rattle.linkfile.specs.Verdict.{Fault, sound, fault, unless}
+use Rattle.linkfile.specs.Verdict.{sound, fault}
 use Rattle.ways.specs.Portions.{portion, endedAfter}
 use Rattle.ways.specs.Records.{written}
-use Rattle.ways.specs.Halves.{halves, halvesFit}
 use Rattle.question.specs.declared.Question.{Question}
 use Rattle.question.specs.Asked.{askedFault}
-use Rattle.question.specs.Admission.{next}
 use Rattle.portion.specs.Listing.{recordSize, listingFor, Start, fresh, after, startsAfter, startFault}
+use Rattle.join.specs.Lists.{halvesFor, halvesFault}
 use Rattle.cases.specs.SixPersons.{six, ask, Q}
 
--- 18: working cells hold fewer records than there are half chains
-abbrev pub halvesFault : ℕ → ℕ → List (List ℕ) → Fault
-halvesFault size cells halfChains = unless (halvesFit size cells halfChains) 18 0 sound
-
--- a portion of the listing, and the half chains
+-- a portion of the listing, in so much room
 abbrev pub portionIn : List ℕ → Question → ℕ → Start → List (List ℕ)
 portionIn file q room start = portion room (startsAfter start) (listingFor file q)
-
-abbrev pub halvesFor : List ℕ → Question → List (List ℕ)
-halvesFor file q = halves (next file q) (personCount file) (q .from) (q .to) (q .hops)
 
 -- written to lent cells, whichever they are, the chains fill these from cell 0, and the other cells are unchanged
 abbrev pub Fill : List (List ℕ) → List ℕ → Type 0

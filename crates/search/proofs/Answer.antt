@@ -1,12 +1,12 @@
 -- The face: what it hands down is as the cycle asks, and what comes back is the portion of the listing.
 use mathlib.Core.Path.{_≡_, refl, sym, ap, subst, _∙_}
 use mathlib.Core.Bool.{Bool, true, false}
-use mathlib.Core.List.{List, [], _∷_, _++_, map, append-assoc, append-nil, tail-eq-of-cons-eq, List·Memᴰ·head, List·Memᴰ·tail, Memᴰ·of-map, Memᴰ·map}
+use mathlib.Core.List.{List, [], _∷_, _++_, map, append-assoc, append-nil, List·Memᴰ·head, List·Memᴰ·tail, Memᴰ·of-map}
 use mathlib.Core.Logic.{⊎-elim}
 use Prim.Native.Nat.{ℕ, zero, suc, _+_, _-_, _*_, _/_, _≤_, _<_, min}
-use lib.ListN.{length, getD, set, take, drop, replicate, length-append, length-set, length-replicate, length-map, length-drop, length-take, getD-replicate, List·getD-eq-default}
+use lib.ListN.{length, getD, set, take, drop, replicate, length-append, length-set, length-replicate, length-drop, length-take, getD-replicate, List·getD-eq-default}
 use lib.Seq.{getD-set-other, paste, slice, take-nil, take-all, take-at, drop-append-add, drop-drop, set-at, take-append-seam}
-use lib.Dec.{eqb, ltb, leb}
+use lib.Dec.{ltb, leb}
 use native.Mathlib.Omega.{arith}
 use native.Mathlib.Nat.{add-zero, zero-add, sub-zero, zero-min, min-zero, suc-min-suc}
 use native.Mathlib.Numerals.{add-one}
@@ -14,8 +14,8 @@ use borrow.Author.Tests.{eq-eqb, ne-eqb, lt-ltb, le-ltb, le-leb, lt-leb}
 use Rattle.ways.specs.Graph.{Graph, _∈_, pick, among}
 use Rattle.ways.specs.Chain.{Last, hops}
 use Rattle.ways.specs.Listing.{ways, listing}
-use Rattle.ways.specs.Portions.{after, portion, endedAfter}
-use Rattle.ways.specs.Records.{recordOf, chainOf, Fits, cellsOf, written, roomOf, isRecordIn}
+use Rattle.ways.specs.Portions.{after}
+use Rattle.ways.specs.Records.{recordOf, chainOf, Fits, cellsOf, written, isRecordIn}
 use Rattle.ways.specs.Fewest as least
 use Rattle.ways.proofs.Way.{Way, ends, goes, way-from}
 use Rattle.ways.proofs.Listed.{last-cons}
@@ -24,13 +24,12 @@ use Rattle.ways.proofs.Portions.{real-chains}
 use Rattle.ways.proofs.Records.{way-some, way-few, listing-fits, chainOf-recordOf, length-recordOf, isRecordIn-true}
 use Rattle.ways.proofs.Reach.{round-zero}
 use Rattle.ways.proofs.Fewest.{fewest-cap, fewest-in, fewest-near, none-fewest}
-use Rattle.compact.specs.Compact.{persons, graphOf, Compact}
+use Rattle.compact.specs.Compact.{persons, graphOf}
 use Rattle.search.specs.Face.{size, mostHops, markOf, Asked, Answered}
 use Rattle.search.specs.Pages.{Page, page, emit, emits, recordWith}
-use Rattle.search.specs.Bookmarks.{restOf, onward, Beginning, Tight}
+use Rattle.search.specs.Bookmarks.{restOf, onward, Beginning}
 use Rattle.search.specs.Barriers.{Hold, trailRoom}
 use Rattle.search.specs.Walks.{seenOf, Marked, Ready, GoneThrough}
-use Rattle.search.specs.declared.Listed.{Listed}
 use Rattle.search.specs.Places.{Place}
 use Rattle.search.specs.declared.walk.Found.{Found}
 use Rattle.search.proofs.Cases.{same-or-not, lt-or-le}

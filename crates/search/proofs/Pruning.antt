@@ -1,13 +1,13 @@
 -- Barriers: the trail leads back, and a barrier that was raised holds.
-use mathlib.Core.Path.{_≡_, refl, sym, ap, subst, _∙_}
+use mathlib.Core.Path.{_≡_, refl, sym, ap, _∙_}
 use mathlib.Core.List.{List, [], _∷_, _++_, List·Memᴰ·tail}
 use mathlib.Core.Logic.{⊎-elim, _⊎_, inl, inr}
 use Prim.Native.Nat.{ℕ, suc, _+_, _-_, _*_, _/_, _%_, _≤_, _<_}
 use lib.ListN.{length, take, drop, getD, set, length-set, take-append-drop}
-use lib.Seq.{slice, slice-empty, take-suc, take-take, take-set-le, length-take-le, drop-append-le, getD-set-same, getD-set-other, set-set, set-getD, set-out}
+use lib.Seq.{slice, slice-empty, take-suc, take-take, take-set-le, length-take-le, drop-append-le, getD-set-same, getD-set-other, set-set, set-getD}
 use native.Mathlib.Omega.{arith}
 use native.Mathlib.Numerals.{add-one}
-use Rattle.ways.specs.Graph.{Graph, _∈_}
+use Rattle.ways.specs.Graph.{Graph}
 use Rattle.ways.specs.Listing.{ways}
 use Rattle.ways.proofs.Barrier.{none-more, none-hops, pop-on}
 use Rattle.ways.proofs.Members.{within-cons}

@@ -2,21 +2,19 @@
 use mathlib.Core.Path.{_≡_, refl, sym, ap, subst, _∙_}
 use mathlib.Core.Bool.{Bool, true, false}
 use mathlib.Core.List.{List, [], _∷_, _++_, map, Memᴰ·of-map}
-use mathlib.Core.Logic.{⊎-elim}
-use Prim.Native.Nat.{ℕ, suc, _+_, _≤_, _<_}
-use lib.ListN.{length, getD}
+use Prim.Native.Nat.{ℕ, _+_, _≤_, _<_}
+use lib.ListN.{getD}
 use lib.Seq.{slice, slice-cons}
 use lib.Arith.{lt-of-le-ne}
 use lib.Dec.{eqb}
 use native.Mathlib.Omega.{arith}
 use native.Mathlib.Numerals.{add-one}
 use borrow.Author.Tests.{eq-eqb, ne-eqb}
-use Rattle.ways.specs.Graph.{_∈_, pick}
+use Rattle.ways.specs.Graph.{pick}
 use Rattle.ways.specs.Order.{Before, less, same}
 use Rattle.ways.specs.Portions.{after}
 use Rattle.ways.proofs.After.{after-append, after-map, after-all, after-none, before-nil}
-use Rattle.search.specs.Face.{size}
-use Rattle.search.specs.Bookmarks.{restOf, onward, Beginning, Tight, Beside}
+use Rattle.search.specs.Bookmarks.{restOf, onward, Beginning, Beside}
 use Rattle.search.specs.Places.{Place}
 
 pub onward-loose : (tight : ℕ) (b : List ℕ) (ws : List (List ℕ)) → tight ≡ 0 → onward tight b ws ≡ ws

@@ -2,8 +2,8 @@
 use mathlib.Core.Path.{_≡_, refl, sym, ap, subst, _∙_}
 use mathlib.Core.Bool.{Bool, true, false}
 use mathlib.Core.List.{List, [], _∷_, _++_, flatMap, map, map-map, map-append, List·Memᴰ·head, List·Memᴰ·tail}
-use mathlib.Core.Logic.{⊎-elim, _⊎_, inl, inr}
-use Prim.Native.Nat.{ℕ, zero, suc, _+_, _-_, _*_, _≤_, _<_}
+use mathlib.Core.Logic.{⊎-elim}
+use Prim.Native.Nat.{ℕ, zero, suc, _+_, _-_, _≤_, _<_}
 use lib.ListN.{length, getD, set, length-set}
 use lib.Seq.{slice, slice-cons, slice-empty, getD-set-same, getD-set-other, set-set, set-getD}
 use lib.Dec.{eqb}
@@ -15,12 +15,11 @@ use Rattle.ways.specs.Order.{Rising}
 use Rattle.ways.specs.Listing.{by, ways}
 use Rattle.ways.proofs.Members.{flatMap-append, mem-split}
 use Rattle.ways.proofs.Rising.{rising-below, rising-above}
-use Rattle.compact.specs.Compact.{persons, graphOf, Compact}
-use Rattle.search.specs.Face.{size}
-use Rattle.search.specs.Pages.{Page, page, emit, emits, recordWith, Room, Handed}
-use Rattle.search.specs.Bookmarks.{restOf, onward, Beginning, Tight, Beside}
-use Rattle.search.specs.Barriers.{Hold, trailRoom, Raising, Barren, Settling, Settled, Barred}
-use Rattle.search.specs.Walks.{seenOf, Marked, Ready, following, through, handed, next, noted, GoneThrough, Entered}
+use Rattle.compact.specs.Compact.{graphOf}
+use Rattle.search.specs.Pages.{Page, page, emits, recordWith, Room, Handed}
+use Rattle.search.specs.Bookmarks.{restOf, onward, Tight, Beside}
+use Rattle.search.specs.Barriers.{Barren, Settling, Settled, Barred}
+use Rattle.search.specs.Walks.{seenOf, Marked, Ready, following, handed, next, noted, GoneThrough, Entered}
 use Rattle.search.specs.Places.{Place}
 use Rattle.search.specs.declared.walk.Found.{Found}
 use Rattle.search.proofs.Cases.{same-or-not, lt-or-le}

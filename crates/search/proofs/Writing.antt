@@ -3,7 +3,7 @@ use mathlib.Core.Path.{_≡_, refl, sym, ap, _∙_}
 use mathlib.Core.Bool.{Bool, true, false}
 use mathlib.Core.List.{List, [], _∷_, _++_, map}
 use mathlib.Core.Logic.{⊎-elim}
-use Prim.Native.Nat.{ℕ, zero, suc, _+_, _-_, _*_, _≤_, _<_}
+use Prim.Native.Nat.{ℕ, _+_, _-_, _*_, _≤_, _<_}
 use lib.ListN.{length, take, drop, getD, set, length-set, length-append}
 use lib.Seq.{paste, paste-zero, paste-suc, length-paste, length-take-le, set-append-left, take-set-lt, set-set, set-comm}
 use lib.Dec.{eqb, ltb}
@@ -13,7 +13,7 @@ use native.Mathlib.Numerals.{add-one}
 use borrow.Author.Tests.{eq-eqb, ne-eqb, lt-ltb, le-ltb}
 use Rattle.ways.specs.Graph.{pick}
 use Rattle.search.specs.Face.{size}
-use Rattle.search.specs.Pages.{Page, page, emit, emits, recordWith, Room, Handed}
+use Rattle.search.specs.Pages.{Page, emit, emits, recordWith, Room, Handed}
 use Rattle.search.specs.declared.walk.Found.{Found}
 use Rattle.search.proofs.Cases.{same-or-not, lt-or-le}
 

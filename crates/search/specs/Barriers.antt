@@ -2,12 +2,13 @@
 use mathlib.Core.Path.{_≡_}
 use mathlib.Core.List.{List, [], _∷_}
 use mathlib.Core.Logic.{_⊎_}
-use Prim.Native.Nat.{ℕ, _+_, _/_, _%_, _≤_, _<_}
+use Prim.Native.Nat.{ℕ, _*_, _/_, _%_, _≤_, _<_}
 use lib.ListN.{length, getD, set, take}
 use lib.Seq.{slice}
 use Rattle.ways.specs.Graph.{Graph, _∈_}
 use Rattle.ways.specs.Listing.{ways}
 use Rattle.compact.specs.Compact.{persons}
+use Rattle.search.specs.Face.{mostHops}
 use Rattle.search.specs.declared.walk.Found.{Found}
 
 -- Sound: from v there is no way to t in fewer hops than v's barrier that passes nobody seen.
@@ -38,7 +39,7 @@ pub record Trailed (trail₀ : List ℕ) (n₀ : ℕ) (barriers₀ trail : List 
 
 -- the trail's entries: the hops times the persons
 abbrev pub trailRoom : ℕ
-trailRoom = 8192
+trailRoom = mostHops * persons
 
 -- what undoing asks
 pub record Undoable (barriers trail : List ℕ) (low high : ℕ) : Type 0 where

@@ -54,18 +54,18 @@ pub fn list(
     marks[at] = true;
     let room = out.len() / RECORD;
     let found = walk::go_through(
+        at,
         rows,
         targets,
-        bookmark,
         &mut marks,
-        &mut chain,
-        out,
         &mut barriers,
+        &mut chain,
         &mut trail,
+        bookmark,
+        out,
         Ask { to: to, room: room },
         Walk { len: 1, left: hops },
         started,
-        at,
         Found {
             count: 0,
             more: 0,

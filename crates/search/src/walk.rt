@@ -1,14 +1,14 @@
 // The cycle: entering a person, and going through that person's links.
-ghost use Prim.Native.Nat.{_<_};
 ghost use Rattle.search.specs.Places.{placeOf};
 ghost use Rattle.search.specs.Walks.{Ready, Entered, GoneThrough};
+use crate::HOPS;
 use crate::RECORD;
 use compact::LINKS;
 use compact::PERSONS;
 use compact::STARTS;
 
 // Each entry that stands on the trail has raised its person's barrier, and none passes the hops: never too few.
-pub const TRAIL: usize = 8192;
+pub const TRAIL: usize = HOPS * PERSONS;
 
 // What stays the same all through a search: whom the chains lead to, and how many records there is room for.
 // Numbers go down in small structs of two, and no bool among them: such a struct goes in registers.
@@ -31,20 +31,21 @@ pub struct Found {
     pub trail: usize,
 }
 
-// Tries v as the next person of the chain. `tight` is 0 once the chain has left the bookmark, and in a fresh start.
+// Tries v as the next person of the chain. What every link asks for stands first, so that it goes in registers.
+// `tight` is 0 once the chain has left the bookmark, and in a fresh start.
 pub fn enter(
+    v: u32,
     rows: &[u16; STARTS],
     targets: &[u16; LINKS],
-    bookmark: &[u32],
     marks: &mut [bool; PERSONS],
-    chain: &mut [u32; RECORD],
-    out: &mut [u32],
     barriers: &mut [u8; PERSONS],
+    chain: &mut [u32; RECORD],
     trail: &mut [u16; TRAIL],
+    bookmark: &[u32],
+    out: &mut [u32],
     ask: Ask,
     w: Walk,
     tight: u32,
-    v: u32,
     found: Found,
 ) -> Found
     requires { ⌜ Ready (now rows) (now targets) (now bookmark) (now marks) (now chain) (now out) (now barriers) (now trail) (placeOf ask w tight) v found ⌝ }
@@ -77,14 +78,15 @@ pub fn enter(
     chain[len] = v;
     marks[at] = true;
     let got = go_through(
+        at,
         rows,
         targets,
-        bookmark,
         marks,
-        chain,
-        out,
         barriers,
+        chain,
         trail,
+        bookmark,
+        out,
         Ask {
             to: ask.to,
             room: ask.room,
@@ -94,7 +96,6 @@ pub fn enter(
             left: left,
         },
         side,
-        at,
         Found {
             count: found.count,
             more: 0,
@@ -113,18 +114,18 @@ pub fn enter(
 
 // Tries each link of the person at, who stands last in the chain, until one chain more is seen than there is room for.
 pub fn go_through(
+    at: usize,
     rows: &[u16; STARTS],
     targets: &[u16; LINKS],
-    bookmark: &[u32],
     marks: &mut [bool; PERSONS],
-    chain: &mut [u32; RECORD],
-    out: &mut [u32],
     barriers: &mut [u8; PERSONS],
+    chain: &mut [u32; RECORD],
     trail: &mut [u16; TRAIL],
+    bookmark: &[u32],
+    out: &mut [u32],
     ask: Ask,
     w: Walk,
     tight: u32,
-    at: usize,
     found: Found,
 ) -> Found
     requires { ⌜ Ready (now rows) (now targets) (now bookmark) (now marks) (now chain) (now out) (now barriers) (now trail) (placeOf ask w tight) at found ⌝ }
@@ -139,18 +140,18 @@ pub fn go_through(
     };
     while i < end {
         got = enter(
+            targets[i] as u32,
             rows,
             targets,
-            bookmark,
             marks,
-            chain,
-            out,
             barriers,
+            chain,
             trail,
+            bookmark,
+            out,
             ask,
             w,
             tight,
-            targets[i] as u32,
             got,
         );
         if got.more != 0 {

@@ -4,7 +4,6 @@ use borrow.Author.Needs.{needs}
 use native.Mathlib.Omega.{arith}
 use borrow.Author.Tests.{eqb-true}
 use Prim.Native.Nat.{_*_, _+_, _-_}
-use lib.ListN.{length-set}
 use Rattle.search.specs.Places.{placeOf}
 use Rattle.search.proofs.Steps.{Turning, enter-skipped, enter-bookmark, end-room, enter-end, enter-marked, enter-barred, last-room, enter-last, enter-ready, enter-settling, enter-left, go-start, go-noted, go-enter, go-turn, go-stop, go-end}
 use Prim.Native.Nat.{ℕ, _<_}
@@ -23,10 +22,10 @@ use Rattle.search.proofs.walk.+enter+go_through.{statement}
 use Rattle.search.proofs.walk.+enter+go_through.Tie.{close}
 
 abbrev μ-enter : Measures 8 enter-kinds.ps ℕ
-μ-enter κs a = 2 * (a .1 .1 .1 .1 .1 .1 .1 .1 .1 .0 .left)
+μ-enter κs a = 2 * (a .1 .1 .1 .1 .1 .1 .1 .1 .1 .1 .0 .left)
 
 abbrev μ-go-through : Measures 8 go-through-kinds.ps ℕ
-μ-go-through κs a = 2 * (a .1 .1 .1 .1 .1 .1 .1 .1 .1 .0 .left) + 1
+μ-go-through κs a = 2 * (a .1 .1 .1 .1 .1 .1 .1 .1 .1 .1 .0 .left) + 1
 
 abbrev enter-at : ℕ → In 8 enter-kinds.ps
 enter-at t = and 8 enter-kinds.ps (is 8 enter-kinds.ps μ-enter t) enter.Pre
@@ -151,10 +150,10 @@ enter-returns-7 t c =
     enter-left (at-start .pre .1) (at-if2 .left) (at-if4 .left) (at-if5 .left) (c .before .before .before .before .before .go-through .ensures) (at-beside .ensures) (at-if1 .left) (c .settle .ensures)
 
 abbrev go-through-Inv-loop : go-through-lts.InvT-loop
-go-through-Inv-loop rows targets bookmark marks₀ chain₀ out₀ barriers₀ trail₀ ask w tight at i₀ end got₀ marks chain out barriers trail i got = Turning rows targets bookmark marks₀ chain₀ out₀ barriers₀ trail₀ (placeOf ask w tight) at end got₀ marks chain out barriers trail i got
+go-through-Inv-loop at rows targets marks₀ barriers₀ chain₀ trail₀ bookmark out₀ ask w tight i₀ end got₀ marks barriers chain trail out i got = Turning rows targets bookmark marks₀ chain₀ out₀ barriers₀ trail₀ (placeOf ask w tight) at end got₀ marks chain out barriers trail i got
 
 abbrev go-through-μ-loop : go-through-lts.MeasureT-loop
-go-through-μ-loop rows targets bookmark marks₀ chain₀ out₀ barriers₀ trail₀ ask w tight at i₀ end got₀ marks chain out barriers trail i got = end - i
+go-through-μ-loop at rows targets marks₀ barriers₀ chain₀ trail₀ bookmark out₀ ask w tight i₀ end got₀ marks barriers chain trail out i got = end - i
 
 go-through-cast-i : (t : ℕ) → go-through-lts.Need-cast-i (enter-below t, enter.Post) (go-through-at t) go-through.Post go-through-Inv-loop go-through-μ-loop
 go-through-cast-i t c =
@@ -170,20 +169,15 @@ go-through-loop-holds : (t : ℕ) → go-through-lts.Need-loop-holds (enter-belo
 go-through-loop-holds t c = go-start (c .before .before .before .before .pre .1)
 
 go-through-mul-enter : (t : ℕ) → go-through-lts.Need-mul-enter (enter-below t, enter.Post) (go-through-at t) go-through.Post go-through-Inv-loop go-through-μ-loop
-go-through-mul-enter t c =
-    let at-loop = c .before .before .before .before .before .before .loop in
-    omega (arith, at-loop .inv .bound, at-loop .inv .ready .graph .room, c .before .before .before .before .before .loop-test .taken)
+go-through-mul-enter t c = omega (arith, c .before .loop .inv .bound, c .before .loop .inv .ready .graph .room, c .loop-test .taken)
 
 go-through-element-copy-out-enter : (t : ℕ) → go-through-lts.Need-element-copy-out-enter (enter-below t, enter.Post) (go-through-at t) go-through.Post go-through-Inv-loop go-through-μ-loop
-go-through-element-copy-out-enter t c =
-    let at-loop = c .before .before .before .before .before .before .loop in
-    omega (arith, at-loop .inv .bound, at-loop .inv .ready .graph .room, c .before .before .before .before .before .loop-test .taken)
+go-through-element-copy-out-enter t c = omega (arith, c .before .loop .inv .bound, c .before .loop .inv .ready .graph .room, c .loop-test .taken)
 
 go-through-cast-enter : (t : ℕ) → go-through-lts.Need-cast-enter (enter-below t, enter.Post) (go-through-at t) go-through.Post go-through-Inv-loop go-through-μ-loop
 go-through-cast-enter t c =
-    let at-loop = c .before .before .before .before .before .before .before .loop in
-    let at-loop-test = c .before .before .before .before .before .before .loop-test in
-    let k = at-loop .inv in omega (arith, k .ready .graph .people (at-loop .i) (omega (arith, k .bound, at-loop-test .taken)))
+    let at-loop = c .before .before .loop in
+    let k = at-loop .inv in omega (arith, k .ready .graph .people (at-loop .i) (omega (arith, k .bound, c .before .loop-test .taken)))
 
 go-through-enter-requires : (t : ℕ) → go-through-lts.Need-enter-requires (enter-below t, enter.Post) (go-through-at t) go-through.Post go-through-Inv-loop go-through-μ-loop
 go-through-enter-requires t c κs =
@@ -210,7 +204,7 @@ go-through-loop-again t c =
     let at-loop = c .before .before .before .before .before .before .before .before .before .before .before .before .loop in
     let at-loop-test = c .before .before .before .before .before .before .before .before .before .before .before .loop-test in
     let at-enter = c .before .before .before .before .enter in
-    go-turn (at-loop .inv) (at-loop-test .taken) (at-enter .ensures) (at-enter .kept .1 .1 .1 .1 .1 .0) (c .if1 .left)
+    go-turn (at-loop .inv) (at-loop-test .taken) (at-enter .ensures) (at-enter .kept .1 .1 .1 .1 .1 .1 .1 .1 .0) (c .if1 .left)
 
 go-through-returns-2 : (t : ℕ) → go-through-lts.Need-returns-2 (enter-below t, enter.Post) (go-through-at t) go-through.Post go-through-Inv-loop go-through-μ-loop
 go-through-returns-2 t c = go-noted (c .before .before .before .before .before .before .pre .1) (go-end (c .before .loop .inv) (c .loop-test .left))

@@ -1,0 +1,5 @@
+pub mod Lies
+pub mod Copied
+pub mod Keeping
+pub mod OneResult
+pub mod Onward

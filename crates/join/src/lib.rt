@@ -1,0 +1,132 @@
+// The join: chains put together of two halves that share only the middle person.
+//
+// All half chains, the simple sequences that end at To and pass by From, are counted first and then written to the lent
+// working cells; then the chains of 1, 2, .. hops are found by their left halves, each with the right halves that start
+// where it ends. It promises the listing by hops, shorter first, then in dictionary order, and every cell that it leaves.
+mod chains;
+mod extend;
+mod halves;
+mod pairs;
+mod records;
+
+ghost use Rattle.join.specs.Answers.{Joins, Passed, JoinsIn};
+use compact::LINKS;
+use compact::PERSONS;
+use compact::STARTS;
+use linkfile::Fault;
+use question::Question;
+
+// A chain record has ten cells: the hops, the persons, zeros.
+pub const RECORD: usize = 10;
+
+// A chain has at most eight hops, and a half chain at most half of them.
+pub const HOPS: usize = 8;
+
+// The index of the half chains has a place for each number of hops and each first person, and an end.
+pub const INDEX: usize = (HOPS / 2 + 1) * PERSONS + 1;
+
+// What a join answers.
+pub enum Joined {
+    Listed { count: usize, ended: bool },
+    Refused { number: u32, place: u32 },
+}
+
+// The join over the compact graph: the half chains are counted before any cell is written.
+fn join_graph(
+    rows: &[u16; STARTS],
+    targets: &[u16; LINKS],
+    from: u32,
+    to: u32,
+    hops: u32,
+    working: &mut [u32],
+    out: &mut [u32],
+) -> Joined
+    requires { ⌜ Passed (now rows) (now targets) from to hops ⌝ }
+    ensures { λ r. ⌜ JoinsIn (now (rows .entry)) (now (targets .entry)) from to hops (now (working .entry)) (now (working .exit)) (now (out .entry)) (now (out .exit)) r ⌝ }
+{
+    let source = from as usize;
+    let mut marks = [false; PERSONS];
+    marks[source] = true;
+    let mut only = [0u32; RECORD];
+    only[1] = to;
+    let mut ending = [0usize; STARTS];
+    halves::lone(&mut ending, to as usize);
+    let mut index = [0usize; INDEX];
+    let most = hops as usize;
+    let places = (most / 2 + 1) * PERSONS;
+    let counted = halves::shelve(
+        rows,
+        targets,
+        &only,
+        &ending,
+        &mut marks,
+        &mut index,
+        working,
+        halves::COUNT,
+        places,
+    );
+    if counted.more != 0 {
+        return Joined::Refused {
+            number: 18,
+            place: 0,
+        };
+    }
+    halves::shelve(
+        rows,
+        targets,
+        &only,
+        &ending,
+        &mut marks,
+        &mut index,
+        working,
+        halves::WRITE,
+        places,
+    );
+    let found = chains::gather(
+        rows,
+        targets,
+        working,
+        &index,
+        &mut marks,
+        out,
+        source,
+        most,
+    );
+    Joined::Listed {
+        count: found.count,
+        ended: found.more == 0,
+    }
+}
+
+// Lists the chains by joining half chains: all half chains are written to `working`, the first chains, shorter first, to `out`.
+pub fn join(file: &[u8], question: Question, working: &mut [u32], out: &mut [u32]) -> Joined
+    ensures { λ r. ⌜ Joins (now (file .entry)) question (now (working .entry)) (now (working .exit)) (now (out .entry)) (now (out .exit)) r ⌝ }
+{
+    if let Fault::At(number, place) = question::asked(file, question) {
+        return Joined::Refused { number, place };
+    }
+    if out.len() < RECORD {
+        return Joined::Refused {
+            number: 16,
+            place: 0,
+        };
+    }
+    let mut rows = [0u16; STARTS];
+    let mut targets = [0u16; LINKS];
+    question::filling::fill(
+        file,
+        linkfile::header::counts(file),
+        question,
+        &mut rows,
+        &mut targets,
+    );
+    join_graph(
+        &rows,
+        &targets,
+        question.from,
+        question.to,
+        question.hops,
+        working,
+        out,
+    )
+}

@@ -1,0 +1,68 @@
+// Handing over a chain: it is counted, its record is written, or it is the one more for which there is no room.
+ghost use mathlib.Core.Path.{_≡_};
+ghost use Prim.Native.Nat.{_+_, _≤_};
+ghost use lib.ListN.{length};
+ghost use lib.Seq.{paste};
+ghost use Rattle.join.specs.Pages.{size, Behind, Follows, Room, Handed};
+use crate::RECORD;
+use crate::extend::Found;
+use crate::extend::Walk;
+
+// Copies the cells of the chain to `out`, from cell `at` on.
+fn put(out: &mut [u32], at: usize, chain: [u32; RECORD])
+    requires { ⌜ at + size ≤ length (now out) ⌝ }
+    ensures { λ _. ⌜ now (out .exit) ≡ paste (now (out .entry)) at chain size ⌝ }
+{
+    let mut i = 0;
+    while i < RECORD {
+        out[at + i] = chain[i];
+        i += 1;
+    }
+}
+
+// Copies `count` persons of a half chain, from its cell `from` on, to `out`, from cell `at` on.
+fn append(out: &mut [u32], at: usize, halves: &[u32], from: usize, count: usize)
+    requires { ⌜ Behind (now out) at (now halves) from count ⌝ }
+    ensures { λ _. ⌜ Follows (now (out .entry)) (now (out .exit)) at (now (halves .entry)) from count ⌝ }
+{
+    let mut i = 0;
+    while i < count {
+        out[at + i] = halves[from + i];
+        i += 1;
+    }
+}
+
+// Hands over the chain so far with the rest of a right half behind it, whose cells begin at `from`.
+pub fn hand_over(
+    halves: &[u32],
+    out: &mut [u32],
+    chain: [u32; RECORD],
+    w: Walk,
+    from: usize,
+    found: Found,
+) -> Found
+    requires { ⌜ Room (now halves) (now out) chain w from found ⌝ }
+    ensures { λ r. ⌜ Handed (now (halves .entry)) (now (out .entry)) (now (out .exit)) chain w from found r ⌝ }
+{
+    let count = found.count;
+    if count >= w.room {
+        return Found {
+            count: count,
+            more: 1,
+        };
+    }
+    if w.writes != 0 {
+        let at = count * RECORD;
+        put(out, at, chain);
+        append(out, at + (w.len + 1), halves, from, w.rest);
+        out[at] = (w.len + w.rest - 1) as u32;
+        return Found {
+            count: count + 1,
+            more: 0,
+        };
+    }
+    Found {
+        count: count + 1,
+        more: 0,
+    }
+}
