@@ -39,6 +39,22 @@ use Rattle.chains.specs.Onward.{rest, toCome, OnTheWay, WentOn}
 use Rattle.chains.proofs.Bounded.{count-fits}
 use Rattle.chains.proofs.Lined.{chains-written, records-written}
 
+differ : {number place count : ℕ} {ended : Bool} → refused number place ≡ listed count ended → ⊥
+differ e = let z : _≡_ {A = ℕ} 0 1 = cc in omega arith
+
+-- what an answer says is told by it
+count-same : {m n : ℕ} {a b : Bool} → listed m a ≡ listed n b → m ≡ n
+count-same e = cc
+
+ended-same : {m n : ℕ} {a b : Bool} → listed m a ≡ listed n b → a ≡ b
+ended-same e = cc
+
+true-false : true ≡ false → ⊥
+true-false e = let z : _≡_ {A = ℕ} 0 1 = cc in omega arith
+
+same-count : {cells : List ℕ} {m n : ℕ} {a b : Bool} → listed m a ≡ listed n b → Records cells m → Records cells n
+same-count {cells} e r = subst (λ (count : ℕ). Records cells count) (count-same e) r
+
 -- a portion of a listing that passed
 module _ (file : List ℕ) (q : Question) (asked : askedFault file q ≡ sound) where
   rises : Rising Before (listingFor file q)
@@ -83,11 +99,16 @@ module _ {file : List ℕ} {q : Question} {start : Start} {bookmark counted cell
   module _ {cells′ : List ℕ} {answer : code.Answer} (p : Portioned file q start cells cells′ answer) where
     -- refused: that is all there is to print
     pub way-refused : (bookmark′ counted′ : List ℕ) {number place : ℕ} → answer ≡ code.the-variants.Refused number place → WentOn file q start (worth counted) bookmark′ counted′ cells′ (answerSaid answer)
-    way-refused bookmark′ counted′ {number} {place} is = rw is (go (askedFault file q) (sym (ap answerSaid is) ∙ p .answers ∙ rw way-fault))
+    way-refused bookmark′ counted′ {number} {place} is = record {
+      refuses = λ e. text (askedFault file q) (sym e ∙ p .answers ∙ rw way-fault);
+      lists = λ e. absurd (differ (sym (ap answerSaid is) ∙ e));
+      ends = λ e. absurd (differ (sym (ap answerSaid is) ∙ e));
+      goes = λ e. absurd (differ (sym (ap answerSaid is) ∙ e));
+    }
       where
-        go : (f : Fault) → refused number place ≡ answerFor (firstOf f sound) (length (portionFor file q start cells)) (endedFor file q start cells) → textFor f (rest file q start) (worth counted) ≡ refusalLine number place
-        go sound e = let z : _≡_ {A = ℕ} 0 1 = cc in absurd (omega arith)
-        go (fault r at) e = let a : r ≡ number = cc in let b : at ≡ place = cc in rw (a, b)
+        text : {r at : ℕ} (f : Fault) → refused r at ≡ answerFor (firstOf f sound) (length (portionFor file q start cells)) (endedFor file q start cells) → textFor f (rest file q start) (worth counted) ≡ refusalLine r at
+        text sound e = let z : _≡_ {A = ℕ} 0 1 = cc in absurd (omega arith)
+        text {r} {at} (fault number place) e = let a : number ≡ r = cc in let b : place ≡ at = cc in rw (a, b)
 
     module _ {count : ℕ} {ended : Bool} (is : answer ≡ code.the-variants.Listed count ended) where
       way-asked : askedFault file q ≡ sound
@@ -133,7 +154,8 @@ module _ {file : List ℕ} {q : Question} {start : Start} {bookmark counted cell
 
       way-length : length cells′ ≡ length cells
       way-length =
-          ap length (p .cells ∙ rw way-none)
+          let out : cells′ ≡ written recordSize (portionFor file q start cells) cells = p .cells ∙ rw way-none in
+          ap length out
           ∙ length-written recordSize (portionFor file q start cells) cells way-fits (omega (arith, way-few))
 
       -- where more follow, the portion fills its room
@@ -155,7 +177,12 @@ module _ {file : List ℕ} {q : Question} {start : Start} {bookmark counted cell
             let R = rest file q start in
             let whole : take room R ≡ R = take-all room R (leb-true (length R) room (sym way-ended ∙ e)) in
             let all : worth counted′ ≡ worth counted + length R = w ∙ ap (λ (n : ℕ). worth counted + n) (way-many ∙ ap length whole) in
-            rw e (d, way-records, rw (way-asked, way-chains, whole, all))
+            record {
+              refuses = λ x. absurd (differ (sym x));
+              lists = λ x. same-count x way-records;
+              ends = λ x. (d, rw (← count-same x, way-asked, way-chains, whole, all));
+              goes = λ x. absurd (true-false (sym e ∙ ended-same x));
+            }
 
         -- any other
         pub way-on : {bookmark′ : List ℕ} → ended ≡ false → bookmark′ ≡ lastRecord count cells′ → WentOn file q start (worth counted) bookmark′ counted′ cells′ (listed count ended)
@@ -172,12 +199,16 @@ module _ {file : List ℕ} {q : Question} {start : Start} {bookmark counted cell
             let short = length-drop room R in
             let same : worth counted′ + length (drop room R) ≡ worth counted + length R = omega (arith, w, way-many, full, short) in
             let parts : chainLines R ≡ chainLines P ++ chainLines (drop room R) = ap chainLines (sym (take-append-drop room R)) ∙ lines-append P (drop room R) in
-            rw e (
-              record { digits = d; room = omega (arith, way-length, k .room); whole = on .whole; passing = on .passing; sum = rw left (same ∙ k .sum) },
-              way-records,
-              rw (way-asked, way-chains, left, same) (ap (λ (t : List ℕ). t ++ endLine (worth counted + length R)) parts ∙ append-assoc (chainLines P) (chainLines (drop room R)) (endLine (worth counted + length R))),
-              rw left (omega (arith, short, k .room)),
-            )
+            record {
+              refuses = λ x. absurd (differ (sym x));
+              lists = λ x. same-count x way-records;
+              ends = λ x. absurd (true-false (sym (ended-same x) ∙ e));
+              goes = λ x. (
+                record { digits = d; room = omega (arith, way-length, k .room); whole = on .whole; passing = on .passing; sum = rw left (same ∙ k .sum) },
+                rw (← count-same x, way-asked, way-chains, left, same) (ap (λ (t : List ℕ). t ++ endLine (worth counted + length R)) parts ∙ append-assoc (chainLines P) (chainLines (drop room R)) (endLine (worth counted + length R))),
+                rw left (omega (arith, short, k .room)),
+              );
+            }
 
 -- ---- the start: everything is to come
 first-all : (s : ℕ) (L : List (List ℕ)) → after [] (map (_∷_ s) L) ≡ map (_∷_ s) L

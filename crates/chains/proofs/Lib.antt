@@ -2,4 +2,4 @@ pub mod Bounded
 pub mod Lined
 pub mod Going
 pub mod Kept
-pub mod Went
+pub mod Heard

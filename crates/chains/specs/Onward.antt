@@ -1,7 +1,7 @@
 -- Going on by a portion: what is still to be printed. Definitions only.
 use mathlib.Core.Path.{_≡_}
 use mathlib.Core.List.{List, _++_}
-use mathlib.Core.Bool.{true, false}
+use mathlib.Core.Bool.{Bool, true, false}
 use Prim.Native.Nat.{ℕ, _+_, _≤_, _<_}
 use lib.ListN.{length}
 use Rattle.linkfile.specs.Verdict.{sound}
@@ -30,13 +30,14 @@ pub record OnTheWay (file : List ℕ) (q : Question) (start : Start) (bookmark c
   pub passing : startFault (listingFor file q) start ≡ sound
   pub sum : worth counted + length (rest file q start) ≡ length (listingFor file q)
 
--- the lines of the chains in the cells are printed next; then the last line, or what is to come from the last chain on, which is less
-abbrev pub WentOn : List ℕ → Question → Start → ℕ → List ℕ → List ℕ → List ℕ → Answer → Type 0
-WentOn file q start before bookmark′ counted′ cells′ (refused number place) = toCome file q start before ≡ refusalLine number place
-WentOn file q start before bookmark′ counted′ cells′ (listed count true) =
-    Digits counted′ × Records cells′ count × (toCome file q start before ≡ chainLines (chainsAt cells′ 0 count) ++ endLine (worth counted′))
-WentOn file q start before bookmark′ counted′ cells′ (listed count false) =
-    OnTheWay file q (behind bookmark′) bookmark′ counted′ cells′
-    × Records cells′ count
-    × (toCome file q start before ≡ chainLines (chainsAt cells′ 0 count) ++ toCome file q (behind bookmark′) (worth counted′))
-    × (length (rest file q (behind bookmark′)) < length (rest file q start))
+-- going on by a portion: what was to come is a refusal's line; or the lines of the chains that are in the cells now, and then the last
+-- line, or what is to come from the last of them on, which is less
+pub record WentOn (file : List ℕ) (q : Question) (start : Start) (before : ℕ) (bookmark′ counted′ cells′ : List ℕ) (answer : Answer) : Type 0 where
+  pub refuses : {number place : ℕ} → answer ≡ refused number place → toCome file q start before ≡ refusalLine number place
+  pub lists : {count : ℕ} {ended : Bool} → answer ≡ listed count ended → Records cells′ count
+  pub ends : {count : ℕ} → answer ≡ listed count true
+      → Digits counted′ × (toCome file q start before ≡ chainLines (chainsAt cells′ 0 count) ++ endLine (worth counted′))
+  pub goes : {count : ℕ} → answer ≡ listed count false
+      → OnTheWay file q (behind bookmark′) bookmark′ counted′ cells′
+      × (toCome file q start before ≡ chainLines (chainsAt cells′ 0 count) ++ toCome file q (behind bookmark′) (worth counted′))
+      × (length (rest file q (behind bookmark′)) < length (rest file q start))

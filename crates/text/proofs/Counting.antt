@@ -177,7 +177,7 @@ module _ {counted out₀ : List ℕ} {at first : ℕ} {out : List ℕ} {i next :
 
 -- ---- nothing counted yet
 pub none-counted : Digits (replicate digitCount 0)
-none-counted = record { long = length-replicate digitCount 0; each = λ i h. rw (getD-replicate digitCount i 0 0 h) (omega arith) }
+none-counted = record { long = length-replicate {A = ℕ} digitCount 0; each = λ i h. rw (getD-replicate {A = ℕ} digitCount i 0 0 h) (omega arith) }
 
 pub none-worth : worth (replicate digitCount 0) ≡ 0
 unfolding worth
