@@ -194,7 +194,7 @@ module _ {file : List ℕ} {q : Question} {start : Start} {bookmark counted cell
             let more = way-more e in
             let full = way-full e in
             let on : Behind file q way-asked (lastOr (startsAfter start) P) bookmark′ = subst (λ (m : List ℕ). Behind file q way-asked (lastOr (startsAfter start) P) m) (sym (b ∙ rw (way-many, way-cells)))
-                (last-behind file q way-asked (startsAfter start) P (drop (length P * recordSize) cells) (omega (arith, full, k .room)) (portion-in file q way-asked start cells)) in
+            (last-behind file q way-asked (startsAfter start) P (drop (length P * recordSize) cells) (omega (arith, full, k .room)) (portion-in file q way-asked start cells)) in
             let left : rest file q (behind bookmark′) ≡ drop room R = ap (λ (c : List ℕ). after c L) (on .mark) ∙ after-portion L (rises file q way-asked) (startsAfter start) room in
             let short = length-drop room R in
             let same : worth counted′ + length (drop room R) ≡ worth counted + length R = omega (arith, w, way-many, full, short) in

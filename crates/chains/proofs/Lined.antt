@@ -39,7 +39,7 @@ module _ (front : List ℕ) (n : ℕ) (c : List ℕ) (L : List (List ℕ)) (rest
   record-front =
       let whole = ap length regroup ∙ length-append (front ++ recordOf recordSize c) (cellsOf recordSize L ++ rest) in
       let first : getD (front ++ ((recordOf recordSize c ++ cellsOf recordSize L) ++ rest)) (n * recordSize + 0) 0 ≡ getD (recordOf recordSize c ++ (cellsOf recordSize L ++ rest)) 0 0
-          = sym (getD-drop (n * recordSize) (front ++ ((recordOf recordSize c ++ cellsOf recordSize L) ++ rest)) 0 0) ∙ ap (λ (m : List ℕ). getD m 0 0) at-front in
+      = sym (getD-drop (n * recordSize) (front ++ ((recordOf recordSize c ++ cellsOf recordSize L) ++ rest)) 0 0) ∙ ap (λ (m : List ℕ). getD m 0 0) at-front in
       let zero-off : n * recordSize + 0 ≡ n * recordSize = omega arith in
       let same : n + 0 ≡ n = omega arith in
       rw same (record { whole = omega (arith, whole, longer); few = rw zero-off at (rw (sym first) at (hops-head c (cellsOf recordSize L ++ rest) f)) })

@@ -86,14 +86,7 @@ fn list(file: &[u8], question: Question, cells: &mut [u32], out: &mut [u8])
     let mut counted = [0u8; DIGITS];
     let mut started = 0;
     loop {
-        let answer = onward::go_on(
-            file,
-            question,
-            started,
-            &mut bookmark,
-            &mut counted,
-            cells,
-        );
+        let answer = onward::go_on(file, question, started, &mut bookmark, &mut counted, cells);
         let Answer::Listed { count, ended } = answer else {
             refuse(answer, out);
             return;

@@ -1,93 +1,101 @@
+-- `list` ends: the chains that are still to come become fewer with each portion.
+use borrow.Author.Needs.{needs}
+use native.Mathlib.Omega.{arith}
+use mathlib.Core.Path.{_≡_, refl, sym, ap, _∙_}
+use Prim.Native.Nat.{_≤_}
+use lib.ListN.{length}
+use Rattle.portion.specs.Listing.{startSaid}
+use Rattle.portion.specs.Answers.{listed, answerSaid}
+use Rattle.text.specs.Printed.{longestLine}
+use Rattle.text.proofs.Counting.{none-counted, none-worth}
+use Rattle.chains.specs.Onward.{rest, OnTheWay}
+use Rattle.chains.proofs.Going.{way-starts}
 use Rattle.chains.proofs.list.Statement.{statement}
 use Rattle.chains.proofs.list.Tie as tie
-use Rattle.chains.proofs.list.Reads as reads
-use Rattle.chains.proofs.list.Lts as lts
-use Rattle.chains.proofs.onward.go_on.Reads as go-on-reads
-use Rattle.chains.proofs.print_chains.Reads as print-chains-reads
-use Rattle.chains.proofs.print_end.Reads as print-end-reads
-use Rattle.chains.proofs.refuse.Reads as refuse-reads
 
 abbrev Inv-loop : tie.InvT-loop
-Inv-loop file question cells₀ out₀ bookmark₀ counted₀ started₀ cells out bookmark counted started = ?
+Inv-loop file question cells₀ out₀ bookmark₀ counted₀ started₀ cells out bookmark counted started = OnTheWay file question (startSaid started bookmark) bookmark counted cells × (longestLine ≤ length out) × (length cells ≡ length cells₀) × (length out ≡ length out₀)
 
 abbrev μ-loop : tie.MeasureT-loop
-μ-loop file question cells₀ out₀ bookmark₀ counted₀ started₀ cells out bookmark counted started = ?
+μ-loop file question cells₀ out₀ bookmark₀ counted₀ started₀ cells out bookmark counted started = length (rest file question (startSaid started bookmark))
 
--- src/main.rt:74:5
 loop-holds : tie.Need-loop-holds Inv-loop μ-loop
-loop-holds c = ?
+loop-holds c =
+    let at-start = c .before .before .before in
+    (way-starts none-counted none-worth (at-start .pre .0) refl, at-start .pre .1, refl, refl)
 
--- src/main.rt:79:13
 slice-aggregate-go-on : tie.Need-slice-aggregate-go-on Inv-loop μ-loop
-slice-aggregate-go-on c = ?
+slice-aggregate-go-on c = sym (c .before .loop .inv .0 .whole)
 
--- src/main.rt:75:13
 go-on-requires : tie.Need-go-on-requires Inv-loop μ-loop
-go-on-requires c κs = ?
+go-on-requires c κs = c .before .before .before .loop .inv .0
 
--- src/main.rt:83:30
-enum-known-answer : tie.Need-enum-known-answer Inv-loop μ-loop
-enum-known-answer c = ?
-
--- src/main.rt:84:28
-enum-told : tie.Need-enum-told Inv-loop μ-loop
-enum-told c = ?
-
--- src/main.rt:84:13
 refuse-requires : tie.Need-refuse-requires Inv-loop μ-loop
-refuse-requires c κs = ?
+refuse-requires c κs =
+    let at-loop = c .before .before .before .before .before .before .before .before .before .before .loop in
+    at-loop .inv .1
 
--- src/main.rt:85:13
 same-length : tie.Need-same-length Inv-loop μ-loop
-same-length c = ?
+same-length c =
+    let at-go-on = c .before .before .before .before .before .before .before .before .before .go-on in
+    let at-loop = c .before .before .before .before .before .before .before .before .before .before .before .before .before .loop in
+    at-go-on .kept .1 .1 .1 .1 .1 .0 ∙ at-loop .inv .2
 
--- src/main.rt:85:13
 same-length-2 : tie.Need-same-length-2 Inv-loop μ-loop
-same-length-2 c = ?
+same-length-2 c =
+    let at-loop = c .before .before .before .before .before .before .before .before .before .before .before .before .before .loop in
+    c .before .before .refuse .kept .1 .0 ∙ at-loop .inv .3
 
--- src/main.rt:85:13
-returns : tie.Need-returns Inv-loop μ-loop
-returns c = ?
-
--- src/main.rt:87:13
 print-chains-requires : tie.Need-print-chains-requires Inv-loop μ-loop
-print-chains-requires c κs = ?
+print-chains-requires c κs =
+    let at-go-on = c .before .before .before .before .before .before .before .before .go-on in
+    let at-loop = c .before .before .before .before .before .before .before .before .before .before .before .before .loop in
+    (at-go-on .ensures .lists (ap answerSaid (c .before .before .before .answer .given .1)), at-loop .inv .1)
 
--- src/main.rt:88:13
 same-length-3 : tie.Need-same-length-3 Inv-loop μ-loop
-same-length-3 c = ?
+same-length-3 c =
+    let at-go-on = c .before .before .before .before .before .before .before .before .before .before .before .before .go-on in
+    let at-loop = c .before .before .before .before .before .before .before .before .before .before .before .before .before .before .before .before .loop in
+    at-go-on .kept .1 .1 .1 .1 .1 .0 ∙ at-loop .inv .2
 
--- src/main.rt:88:13
 same-length-4 : tie.Need-same-length-4 Inv-loop μ-loop
-same-length-4 c = ?
+same-length-4 c =
+    let at-loop = c .before .before .before .before .before .before .before .before .before .before .before .before .before .before .before .before .loop in
+    c .before .before .before .print-chains .kept .1 .1 .0 ∙ at-loop .inv .3
 
--- src/main.rt:88:13
-returns-2 : tie.Need-returns-2 Inv-loop μ-loop
-returns-2 c = ?
-
--- src/main.rt:91:13
 print-end-requires : tie.Need-print-end-requires Inv-loop μ-loop
-print-end-requires c κs = ?
+print-end-requires c κs =
+    let at-go-on = c .before .before .before .before .before .before .before .before .before .before .before .before .before .before .before .go-on in
+    let at-answer = c .before .before .before .before .before .before .before .before .before .before .answer in
+    let at-print-chains = c .before .before .before .before .before .before .print-chains in
+    let at-loop = c .before .before .before .before .before .before .before .before .before .before .before .before .before .before .before .before .before .before .before .loop in
+    (at-go-on .ensures .ends (ap answerSaid (at-answer .given .1) ∙ ap (listed (at-answer .given .0 .0)) (c .before .before .if2 .taken)) .0, omega (arith, at-print-chains .kept .1 .1 .0, at-loop .inv .1))
 
--- src/main.rt:92:13
 same-length-5 : tie.Need-same-length-5 Inv-loop μ-loop
-same-length-5 c = ?
+same-length-5 c =
+    let at-go-on = c .before .before .before .before .before .before .before .before .before .before .before .before .before .before .before .before .before .before .go-on in
+    let at-loop = c .before .before .before .before .before .before .before .before .before .before .before .before .before .before .before .before .before .before .before .before .before .before .loop in
+    at-go-on .kept .1 .1 .1 .1 .1 .0 ∙ at-loop .inv .2
 
--- src/main.rt:92:13
 same-length-6 : tie.Need-same-length-6 Inv-loop μ-loop
-same-length-6 c = ?
+same-length-6 c =
+    let at-print-chains = c .before .before .before .before .before .before .before .before .before .print-chains in
+    let at-loop = c .before .before .before .before .before .before .before .before .before .before .before .before .before .before .before .before .before .before .before .before .before .before .loop in
+    c .before .before .print-end .kept .1 .0 ∙ at-print-chains .kept .1 .1 .0 ∙ at-loop .inv .3
 
--- src/main.rt:92:13
-returns-3 : tie.Need-returns-3 Inv-loop μ-loop
-returns-3 c = ?
-
--- src/main.rt:74:5
 loop-less : tie.Need-loop-less Inv-loop μ-loop
-loop-less c = ?
+loop-less c =
+    let at-go-on = c .before .before .before .before .before .before .before .before .before .before .before .before .before .go-on in
+    let at-answer = c .before .before .before .before .before .before .before .before .answer in
+    at-go-on .ensures .goes (ap answerSaid (at-answer .given .1) ∙ ap (listed (at-answer .given .0 .0)) (c .if2 .left)) .2
 
--- src/main.rt:74:5
 loop-again : tie.Need-loop-again Inv-loop μ-loop
-loop-again c = ?
+loop-again c =
+    let at-go-on = c .before .before .before .before .before .before .before .before .before .before .before .before .before .go-on in
+    let at-answer = c .before .before .before .before .before .before .before .before .answer in
+    let at-print-chains = c .before .before .before .before .print-chains in
+    let at-loop = c .before .before .before .before .before .before .before .before .before .before .before .before .before .before .before .before .before .loop in
+    (at-go-on .ensures .goes (ap answerSaid (at-answer .given .1) ∙ ap (listed (at-answer .given .0 .0)) (c .if2 .left)) .0, omega (arith, at-print-chains .kept .1 .1 .0, at-loop .inv .1), at-go-on .kept .1 .1 .1 .1 .1 .0 ∙ at-loop .inv .2, at-print-chains .kept .1 .1 .0 ∙ at-loop .inv .3)
 
 pub list-spec : {M : Type 1} → statement M
 list-spec =
@@ -98,19 +106,19 @@ list-spec =
     loop-holds
     slice-aggregate-go-on
     go-on-requires
-    enum-known-answer
-    enum-told
+    (λ c. search needs)
+    (λ c. search needs)
     refuse-requires
     same-length
     same-length-2
-    returns
+    (λ c. search needs)
     print-chains-requires
     same-length-3
     same-length-4
-    returns-2
+    (λ c. search needs)
     print-end-requires
     same-length-5
     same-length-6
-    returns-3
+    (λ c. search needs)
     loop-less
     loop-again)

@@ -1,83 +1,56 @@
+-- `go_on` meets its contract: the portion's promise says what was to come, and the laws what is to come after it.
+use borrow.Author.Tests.{not-true, not-false}
+use Rattle.chains.proofs.Going.{way-refused, way-counts, way-last, way-ends, way-on}
 use borrow.Author.Needs.{needs}
 use Rattle.chains.proofs.onward.go_on.Statement.{statement}
 use Rattle.chains.proofs.onward.go_on.Tie as tie
-use Rattle.chains.proofs.onward.go_on.Reads as reads
-use Rattle.chains.proofs.onward.go_on.Lts as lts
-use Rattle.chains.proofs.onward.keep_last.Reads as keep-last-reads
-use Rattle.portion.proofs.portion.Reads as portion-reads
-use Rattle.text.proofs.counts.count_on.Reads as count-on-reads
 
--- src/onward.rt:41:9
-portion-requires : tie.Need-portion-requires
-portion-requires c κs = search needs
-
--- src/onward.rt:42:26
-enum-known-answer : tie.Need-enum-known-answer
-enum-known-answer c = search needs
-
--- src/onward.rt:43:9
-enum-told : tie.Need-enum-told
-enum-told c = search needs
-
--- src/onward.rt:43:9
-same-length : tie.Need-same-length
-same-length c = search needs
-
--- src/onward.rt:43:9
-same-length-2 : tie.Need-same-length-2
-same-length-2 c = search needs
-
--- src/onward.rt:43:9
 returns : tie.Need-returns
-returns c = ?
+returns c =
+    let at-start = c .before .before .before .before .before .before .before .before .before .before in
+    way-refused (at-start .pre) (c .before .before .before .before .portion .ensures) _ _ (c .enum-told .given .1)
 
--- src/onward.rt:45:5
 count-on-requires : tie.Need-count-on-requires
-count-on-requires c κs = ?
+count-on-requires c κs =
+    let at-start = c .before .before .before .before .before .before .before .before .before .before .before .before in
+    way-counts (at-start .pre) (c .before .before .before .before .before .before .portion .ensures) (c .before .before .answer .given .1)
 
--- src/onward.rt:47:9
 keep-last-requires : tie.Need-keep-last-requires
-keep-last-requires c κs = ?
+keep-last-requires c κs =
+    let at-start = c .before .before .before .before .before .before .before .before .before .before .before .before .before .before .before .before in
+    let at-portion = c .before .before .before .before .before .before .before .before .before .before .portion in
+    let last = way-last (at-start .pre) (at-portion .ensures) (c .before .before .before .before .before .before .answer .given .1) (not-true _ (c .before .before .if1 .taken)) in (last .0, last .1, at-start .pre .whole)
 
--- src/onward.rt:30:1
-same-length-3 : tie.Need-same-length-3
-same-length-3 c = search needs
-
--- src/onward.rt:30:1
-same-length-4 : tie.Need-same-length-4
-same-length-4 c = search needs
-
--- src/onward.rt:30:1
 returns-2 : tie.Need-returns-2
-returns-2 c = ?
+returns-2 c =
+    let at-start = c .before .before .before .before .before .before .before .before .before .before .before .before .before .before .before .before .before .before .before in
+    let at-portion = c .before .before .before .before .before .before .before .before .before .before .before .before .before .portion in
+    let at-answer = c .before .before .before .before .before .before .before .before .before .answer in
+    let at-count-on = c .before .before .before .before .before .before .count-on in
+    way-on (at-start .pre) (at-portion .ensures) (at-answer .given .1) (at-count-on .ensures .0) (at-count-on .ensures .1) (not-true _ (c .before .before .before .before .before .if1 .taken)) (c .before .before .keep-last .ensures)
 
--- src/onward.rt:30:1
-same-length-5 : tie.Need-same-length-5
-same-length-5 c = search needs
-
--- src/onward.rt:30:1
-same-length-6 : tie.Need-same-length-6
-same-length-6 c = search needs
-
--- src/onward.rt:30:1
 returns-3 : tie.Need-returns-3
-returns-3 c = ?
+returns-3 c =
+    let at-start = c .before .before .before .before .before .before .before .before .before .before .before .before .before .before in
+    let at-portion = c .before .before .before .before .before .before .before .before .portion in
+    let at-count-on = c .before .count-on in
+    way-ends (at-start .pre) (at-portion .ensures) (c .before .before .before .before .answer .given .1) (at-count-on .ensures .0) (at-count-on .ensures .1) _ (not-false _ (c .if1 .left))
 
 pub go-on-spec : {M : Type 1} → statement M
 go-on-spec =
     tie.close
     (tie.spec
-    portion-requires
-    enum-known-answer
-    enum-told
-    same-length
-    same-length-2
+    (λ c κs. search needs)
+    (λ c. search needs)
+    (λ c. search needs)
+    (λ c. search needs)
+    (λ c. search needs)
     returns
     count-on-requires
     keep-last-requires
-    same-length-3
-    same-length-4
+    (λ c. search needs)
+    (λ c. search needs)
     returns-2
-    same-length-5
-    same-length-6
+    (λ c. search needs)
+    (λ c. search needs)
     returns-3)

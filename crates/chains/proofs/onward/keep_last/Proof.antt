@@ -1,65 +1,50 @@
+-- `keep_last` copies the record cell by cell: the first i cells are copied.
+use borrow.Author.Needs.{needs}
+use native.Mathlib.Omega.{arith}
+use mathlib.Core.Path.{sym, _∙_}
+use Prim.Native.Nat.{_-_}
+use Rattle.chains.proofs.Kept.{Keeping, keep-starts, keep-turn, keep-ends}
 use Rattle.chains.proofs.onward.keep_last.Statement.{statement}
 use Rattle.chains.proofs.onward.keep_last.Tie as tie
-use Rattle.chains.proofs.onward.keep_last.Reads as reads
-use Rattle.chains.proofs.onward.keep_last.Lts as lts
 
 abbrev Inv-loop : tie.InvT-loop
-Inv-loop cells count bookmark₀ first i₀ bookmark i = ?
+Inv-loop cells count bookmark₀ first i₀ bookmark i = Keeping cells first bookmark i
 
 abbrev μ-loop : tie.MeasureT-loop
-μ-loop cells count bookmark₀ first i₀ bookmark i = ?
+μ-loop cells count bookmark₀ first i₀ bookmark i = 10 - i
 
--- src/onward.rt:21:18
 sub-first : tie.Need-sub-first Inv-loop μ-loop
-sub-first c = ?
+sub-first c = omega (arith, c .pre .0)
 
--- src/onward.rt:21:17
 mul-first : tie.Need-mul-first Inv-loop μ-loop
-mul-first c = ?
+mul-first c = omega (arith, c .pre .1, c .good .0 .0)
 
--- src/onward.rt:23:5
 loop-holds : tie.Need-loop-holds Inv-loop μ-loop
-loop-holds c = ?
+loop-holds c = keep-starts (omega (arith, c .pre .0, c .pre .1)) (c .pre .2)
 
--- src/onward.rt:24:29
 add-bookmark : tie.Need-add-bookmark Inv-loop μ-loop
-add-bookmark c = ?
+add-bookmark c = omega (arith, c .before .loop .inv .inside, c .loop-test .taken, c .before .before .good .0 .0)
 
--- src/onward.rt:24:23
 mul-bookmark : tie.Need-mul-bookmark Inv-loop μ-loop
-mul-bookmark c = ?
+mul-bookmark c = omega (arith, c .before .loop .inv .inside, c .loop-test .taken, c .before .before .good .0 .1)
 
--- src/onward.rt:24:23
 shared-slice-read-bookmark : tie.Need-shared-slice-read-bookmark Inv-loop μ-loop
-shared-slice-read-bookmark c = ?
+shared-slice-read-bookmark c = omega (arith, c .before .before .loop .inv .inside, c .before .loop-test .taken)
 
--- src/onward.rt:24:9
 mul-bookmark-2 : tie.Need-mul-bookmark-2 Inv-loop μ-loop
-mul-bookmark-2 c = ?
+mul-bookmark-2 c = omega (arith, c .before .loop-test .taken)
 
--- src/onward.rt:24:9
 slice-write-bookmark : tie.Need-slice-write-bookmark Inv-loop μ-loop
-slice-write-bookmark c = ?
+slice-write-bookmark c = omega (arith, c .before .before .loop .inv .whole, c .before .loop-test .taken)
 
--- src/onward.rt:25:9
-add-i : tie.Need-add-i Inv-loop μ-loop
-add-i c = ?
-
--- src/onward.rt:23:5
-loop-less : tie.Need-loop-less Inv-loop μ-loop
-loop-less c = ?
-
--- src/onward.rt:23:5
 loop-again : tie.Need-loop-again Inv-loop μ-loop
-loop-again c = ?
+loop-again c = keep-turn (c .before .before .loop .inv) (c .before .loop-test .taken)
 
--- src/onward.rt:17:1
 same-length : tie.Need-same-length Inv-loop μ-loop
-same-length c = ?
+same-length c = c .before .loop .inv .whole ∙ sym (c .before .before .pre .2)
 
--- src/onward.rt:17:1
 returns : tie.Need-returns Inv-loop μ-loop
-returns c = ?
+returns c = keep-ends (c .before .loop .inv) (c .loop-test .left)
 
 pub keep-last-spec : {M : Type 1} → statement M
 keep-last-spec =
@@ -75,8 +60,8 @@ keep-last-spec =
     shared-slice-read-bookmark
     mul-bookmark-2
     slice-write-bookmark
-    add-i
-    loop-less
+    (λ c. search needs)
+    (λ c. search needs)
     loop-again
     same-length
     returns)
