@@ -9,7 +9,7 @@ use native.Mathlib.Nat.{pow-suc, zero-add, not-le-of-lt}
 use native.Mathlib.Numerals.{add-one}
 use lib.Dec.{eqb}
 use borrow.Author.Tests.{eqb-true, eqb-false}
-use lib.ListN.{length, getD, take, drop, set, length-set}
+use lib.ListN.{length, getD, take, drop, set, replicate, length-set, length-replicate, getD-replicate}
 use lib.Seq.{take-all, take-suc-set, drop-set-lt, drop-cons, drop-length, getD-set-same, getD-set-other}
 use Rattle.text.specs.Decimal.{decimal, worth, digitCount, Digits}
 use Rattle.text.specs.Printed.{Printed}
@@ -174,3 +174,11 @@ module _ {counted out₀ : List ℕ} {at first : ℕ} {out : List ℕ} {i next :
 
   pub count-room : at + 40 ≤ length out₀ → first ≤ 40 → 0 < i → next < length out
   count-room fits few up = omega (arith, k .room, count-bytes)
+
+-- ---- nothing counted yet
+pub none-counted : Digits (replicate digitCount 0)
+none-counted = record { long = length-replicate {A = ℕ} digitCount 0; each = λ i h. rw (getD-replicate {A = ℕ} digitCount i 0 0 h) (omega arith) }
+
+pub none-worth : worth (replicate digitCount 0) ≡ 0
+unfolding worth
+none-worth = refl

@@ -3,6 +3,9 @@ use mathlib.Core.Path.{_≡_, refl, sym, ap, _∙_}
 use mathlib.Core.List.{List, [], _∷_, _++_, append-assoc, append-nil}
 use Prim.Native.Nat.{ℕ, zero, suc, _+_, _-_, _*_, _≤_, _<_, _^_}
 use native.Mathlib.Omega.{arith}
+use mathlib.Core.Bool.{Bool, true, false}
+use lib.Dec.{ltb}
+use borrow.Author.Tests.{ltb-true, ltb-false}
 use native.Mathlib.Nat.{add-zero, zero-add, suc-add}
 use native.Mathlib.Numerals.{add-one}
 use lib.ListN.{length, getD, take, drop, set, length-drop}
@@ -120,7 +123,7 @@ chains-one cells first (suc n) =
     let e : suc first + n ≡ first + suc n = omega arith in
     ap (λ (L : List (List ℕ)). chainAt cells first ∷ L) (chains-one cells (suc first) n ∙ ap (λ (m : ℕ). chainsAt cells (suc first) n ++ chainAt cells m ∷ []) e)
 
-lines-append : (L M : List (List ℕ)) → chainLines (L ++ M) ≡ chainLines L ++ chainLines M
+pub lines-append : (L M : List (List ℕ)) → chainLines (L ++ M) ≡ chainLines L ++ chainLines M
 unfolding chainLines
 lines-append [] M = refl
 lines-append (c ∷ L) M = rw (lines-append L M, append-assoc)
@@ -162,6 +165,22 @@ module _ {cells : List ℕ} {first count : ℕ} {out₀ out : List ℕ} {next by
 
   pub paging-all : count ≤ next → Paged cells first count out₀ out (record { next = next; bytes = bytes })
   paging-all h = record { from = k .from; to = k .to; within = k .within; full = λ l. absurd (omega arith); lines = k .lines }
+
+-- with room for a line, a page has one
+pub paged-moves : {cells : List ℕ} {first count : ℕ} {out out′ : List ℕ} {page : Page} → Paged cells first count out out′ page → first < count → longestLine ≤ length out → first < page .next
+unfolding chainsAt chainLines
+paged-moves {cells} {first} {count} {out} {out′} {page} k h room = go (ltb first (page .next)) refl
+  where
+    stuck : page .next ≤ first → ⊥
+    stuck le =
+        let none : page .next - first ≡ 0 = omega arith in
+        let empty : page .bytes ≡ 0 = omega (arith, rw none at (k .lines .place)) in
+        let full = k .full (omega arith) in
+        omega arith
+
+    go : (t : Bool) → ltb first (page .next) ≡ t → first < page .next
+    go true e = ltb-true first (page .next) e
+    go false e = absurd (stuck (ltb-false first (page .next) e))
 
 -- ---- the last line, and a refusal's
 pub end-done : (n : ℕ) {out one two : List ℕ} {at last : ℕ} → Printed out 0 (101 ∷ 110 ∷ 100 ∷ 32 ∷ []) one at → Printed one at (decimal n) two last → Printed out 0 (endLine n) (set two last 10) (last + 1)

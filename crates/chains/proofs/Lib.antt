@@ -1,0 +1,5 @@
+pub mod Bounded
+pub mod Lined
+pub mod Going
+pub mod Kept
+pub mod Heard

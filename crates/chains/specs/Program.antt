@@ -1,0 +1,46 @@
+-- What the program prints for what it reads. Definitions only.
+use mathlib.Core.List.{List, _++_}
+use mathlib.Core.Bool.{cond}
+use Prim.Native.Nat.{ℕ, _+_}
+use lib.ListN.{length, drop}
+use lib.Dec.{ltb}
+use Rattle.linkfile.specs.Numbers.{number32}
+use Rattle.linkfile.specs.Verdict.{Fault, sound, fault}
+use Rattle.question.specs.declared.Question.{Question}
+use Rattle.question.specs.Asked.{askedFault}
+use Rattle.portion.specs.Listing.{listingFor}
+use Rattle.text.specs.Lines.{chainLines, endLine, refusalLine}
+use Rattle.chains.specs.declared.reading.Input as code
+
+-- "seven 32-bit numbers": 28 bytes
+abbrev pub questionSize : ℕ
+questionSize = 28
+
+-- "the question in the order above"
+abbrev pub questionIn : List ℕ → Question
+questionIn input = record {
+  from = number32 input 0;
+  to = number32 input 4;
+  hops = number32 input 8;
+  classes = number32 input 12;
+  meaning = number32 input 16;
+  first = number32 input 20;
+  last = number32 input 24;
+}
+
+-- 19: "program: input under 28 bytes", place 0; "19 precedes all"
+abbrev pub heardIn : List ℕ → code.Input
+heardIn input = cond (ltb (length input) questionSize) (code.the-variants.Refused 19 0) (code.the-variants.Asks (questionIn input))
+
+-- "A refusal prints only `refused R at P`." Otherwise a line for each chain, "then `end`, a space and the number of chains":
+-- of these chains, where so many were printed before them
+abbrev pub textFor : Fault → List (List ℕ) → ℕ → List ℕ
+textFor sound chains before = chainLines chains ++ endLine (before + length chains)
+textFor (fault number place) chains before = refusalLine number place
+
+-- "reads from standard input seven 32-bit numbers, then the file": all that is printed. (Of a longer input the first 28 + 53,349
+-- bytes are the input here.)
+abbrev pub printed : List ℕ → List ℕ
+printed input =
+    cond (ltb (length input) questionSize) (refusalLine 19 0)
+    (textFor (askedFault (drop questionSize input) (questionIn input)) (listingFor (drop questionSize input) (questionIn input)) 0)
