@@ -1,7 +1,7 @@
 #!/usr/bin/env bash
 # The independent Rust tests over target/staticlib/liboutside.a and target/bin/chains, which have to stand. Shows what cargo
-# shows; the last
-# line is the sum of its results, "N passed, M failed". Ends non-zero if a test failed, if cargo did, or if none ran.
+# shows; the last line is the sum of its results, "N passed, M failed". Ends non-zero if a test failed, if cargo did, or if
+# none ran.
 set -u
 cd "$(dirname "${BASH_SOURCE[0]}")" || exit 1
 
