@@ -1,7 +1,9 @@
--- The six-person file passes, and every case of the table holds on it: computed from its 188 bytes.
+-- The six-person file passes, every case of the table holds on it, and nothing refuses it: computed from its 188 bytes.
 use mathlib.Core.Path.{_≡_, refl}
 use mathlib.Core.List.{flatMap}
-use lib.ListN.{length}
+use Prim.Native.Nat.{ℕ}
+use native.Mathlib.Omega.{arith}
+use lib.ListN.{length, replicate}
 use Rattle.linkfile.specs.Numbers.{number16, number32}
 use Rattle.linkfile.specs.Format.{marked, countsFit, laidOut}
 use Rattle.linkfile.specs.Kinds.{classOf}
@@ -14,10 +16,12 @@ use Rattle.ways.specs.Portions.{after}
 use Rattle.ways.specs.Records.{recordOf, chainOf, cellsOf, written, sameCells, isRecordIn}
 use Rattle.ways.specs.ByHops.{shorterFirst}
 use Rattle.ways.specs.Halves.{personsBelow, extends, halfChains}
-use Rattle.question.specs.Asked.{daysFit, restFault, questionFault}
+use Rattle.question.specs.Asked.{daysFit, restFault, questionFault, personFault}
+use Rattle.portion.specs.Listing.{portionFault}
 use Rattle.question.specs.Admission.{dayAdmitted, admitted, numbersFrom, next}
-use Rattle.cases.specs.SixPersons.{six}
-use Rattle.cases.specs.Cases.{AllHold, table}
+use Rattle.cases.specs.SixPersons.{six, Q}
+use Rattle.cases.specs.Cases.{AllHold, table, secondRecord}
+use Rattle.cases.specs.Passing.{Passing}
 
 pub six-passes : (length six ≡ 188) × (checked six ≡ passed 6 10 2)
 unfolding six flatMap number16 number32 marked countsFit laidOut classOf firstAmong archiveRises feedRuled feedFault rowStartsOrKeeps rowEnds rowRuled rowFault targetRises linkRuled linkFault ownedFault tablesFault fileFault checked
@@ -44,3 +48,15 @@ every-case-holds =
     and (refl, refl, refl, refl, refl, λ lent. refl)
     and (refl, refl, (λ lent. refl), refl, refl)
     and tt
+
+-- person 1, the second record for a bookmark, 50 working cells and 20 for the output
+pub six-goes-through : Passing six Q 1 secondRecord (replicate 50 0) (replicate 20 0)
+unfolding six flatMap number16 number32 marked countsFit laidOut classOf firstAmong archiveRises feedRuled feedFault rowStartsOrKeeps rowEnds rowRuled rowFault targetRises linkRuled linkFault ownedFault tablesFault fileFault daysFit restFault questionFault personFault dayAdmitted admitted numbersFrom next among keep by ways listing before after recordOf chainOf cellsOf written sameCells isRecordIn shorterFirst personsBelow extends halfChains portionFault
+six-goes-through =
+    record {
+      check = refl;
+      fewest = refl;
+      portion = refl;
+      join = refl;
+      chains = λ e. let z : _≡_ {A = ℕ} 0 1 = cc in omega arith;
+    }

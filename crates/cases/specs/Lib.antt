@@ -1,3 +1,4 @@
--- The six-person file and the table of the cases: definitions only.
+-- The six-person file, the table of the cases, and what passes on it. Definitions only.
 pub mod SixPersons
 pub mod Cases
+pub mod Passing

@@ -26,7 +26,7 @@ use Rattle.portion.specs.EndToEnd as portions
 use Rattle.portion.specs.EndToEnd.{Call, countOf, startBehind, LaidEndToEnd}
 use Rattle.portion.specs.declared.Answer as code
 use Rattle.portion.proofs.Starting.{asked-file}
-use Rattle.portion.proofs.LaidEnd.{laid-end-to-end}
+use Rattle.portion.proofs.LaidEnd.{passes, laid-end-to-end}
 use Rattle.held.specs.declared.Held.{Held}
 use Rattle.held.specs.Holding.{startOf, heldAfter, heldFor, MovedOn}
 use Rattle.held.specs.Calls.{Run, rests, moves, refusal, Quiet}
@@ -86,10 +86,10 @@ record AtEnd (file : List ℕ) (held : Held) : Type 0 where
 -- there a call with room for a record answers 0 chains and ended, and changes nothing
 end-stays : {file : List ℕ} {held held′ : Held} {out out′ : List ℕ} {answer : code.Answer} → AtEnd file held → MovedOn file held held′ out out′ answer → recordSize ≤ length out
     → (held′ ≡ held) × (answerSaid answer ≡ listed 0 true) × (out′ ≡ out)
-unfolding portionFault written cellsOf
+unfolding written cellsOf
 end-stays {file} {held} {out = out} s m h =
     let room = roomOf recordSize (length out) in
-    let passes : portionFault file (held .question) (startOf held) out ≡ sound = rw (s .asked, le-leb recordSize (length out) h, s .good) in
+    let passes : portionFault file (held .question) (startOf held) out ≡ sound = passes file (held .question) (s .asked) (startOf held) out (s .good) h in
     let empty : portionFor file (held .question) (startOf held) out ≡ [] = rw (s .none) (take-nil room) in
     (m .keeps ∙ rw (passes, empty), m .portioned .answers ∙ rw (passes, empty, s .none, le-leb 0 room (omega arith)), m .portioned .cells ∙ rw (passes, empty))
 

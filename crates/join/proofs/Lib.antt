@@ -8,4 +8,5 @@ pub mod Recording
 pub mod Standing
 pub mod Face
 pub mod Public
+pub mod Numbered
 pub mod OneResult

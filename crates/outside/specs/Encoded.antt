@@ -5,11 +5,14 @@ use mathlib.Core.List.{List}
 use Prim.Native.Nat.{ℕ, _+_, _*_, _^_, _<_, _≤_}
 use lib.ListN.{length}
 use Rattle.linkfile.specs.Verdict.{Verdict, passed, refused}
+use Rattle.linkfile.specs.Checked.{checked}
+use Rattle.linkfile.specs.Rows.{rowView}
 use Rattle.question.specs.declared.Question.{Question}
 use Rattle.distance.specs.Answers as distance
 use Rattle.portion.specs.Answers as portion
-use Rattle.portion.specs.Listing.{Start, portionFault, portionFor, endedFor}
-use Rattle.join.specs.Lists.{halvesFor, chainsFor, joinFault, firstOnes, allFit}
+use Rattle.portion.specs.Listing.{Start}
+use Rattle.portion.specs.declared.Answer as code
+use Rattle.join.specs.Answers.{Joins}
 
 -- the seven numbers of a question, in the customer's order
 abbrev pub asking : ℕ → ℕ → ℕ → ℕ → ℕ → ℕ → ℕ → Question
@@ -30,9 +33,6 @@ abbrev pub hopsNumber : distance.Answer → ℕ
 hopsNumber (distance.hops h) = h
 hopsNumber (distance.refused number place) = refusalNumber number place
 
-abbrev pub fewestNumber : List ℕ → Question → ℕ → ℕ
-fewestNumber file q person = hopsNumber (distance.answered file q person)
-
 -- a listing: count + ended * 2^62, or the refusal
 abbrev pub endedNumber : Bool → ℕ
 endedNumber true = 1
@@ -47,13 +47,23 @@ abbrev pub Small : portion.Answer → Type 0
 Small (portion.listed count ended) = count < 2 ^ 62
 Small (portion.refused number place) = number ≤ 18
 
--- the portion's answer as a number, and the output at exit
-pub record PortionNumber (file : List ℕ) (q : Question) (start : Start) (out out′ : List ℕ) (answer : ℕ) : Type 0 where
-  pub answers : answer ≡ listedNumber (portion.answerFor (portionFault file q start out) (length (portionFor file q start out)) (endedFor file q start out))
-  pub cells : out′ ≡ portion.cellsFor (portionFault file q start out) (portionFor file q start out) out
+-- what each function answers, and the lent cells at exit: the promise of the operation behind it, its answer as a number
+abbrev pub CheckNumber : List ℕ → ℕ → Type 0
+CheckNumber file number = number ≡ verdictNumber (checked file)
 
--- the join's answer as a number, and the working cells and the output at exit
-pub record JoinNumber (file : List ℕ) (q : Question) (working working′ out out′ : List ℕ) (answer : ℕ) : Type 0 where
-  pub answers : answer ≡ listedNumber (portion.answerFor (joinFault file q working out) (length (firstOnes (chainsFor file q) out)) (allFit (chainsFor file q) out))
-  pub shelf : working′ ≡ portion.cellsFor (joinFault file q working out) (halvesFor file q) working
-  pub cells : out′ ≡ portion.cellsFor (joinFault file q working out) (firstOnes (chainsFor file q) out) out
+-- "length in bytes of the row view (0 where it is empty)"
+abbrev pub RowNumber : List ℕ → ℕ → ℕ → Type 0
+RowNumber file person number = number ≡ length (rowView file person)
+
+abbrev pub FewestNumber : List ℕ → Question → ℕ → ℕ → Type 0
+FewestNumber file q person number = number ≡ hopsNumber (distance.answered file q person)
+
+pub record PortionNumber (file : List ℕ) (q : Question) (start : Start) (out out′ : List ℕ) (number : ℕ) : Type 0 where
+  pub answer : code.Answer
+  pub portioned : portion.Portioned file q start out out′ answer
+  pub answers : number ≡ listedNumber (portion.answerSaid answer)
+
+pub record JoinNumber (file : List ℕ) (q : Question) (working working′ out out′ : List ℕ) (number : ℕ) : Type 0 where
+  pub answer : code.Answer
+  pub joins : Joins file q working working′ out out′ answer
+  pub answers : number ≡ listedNumber (portion.answerSaid answer)

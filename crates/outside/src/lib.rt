@@ -7,18 +7,16 @@ use portion::Answer;
 use question::Question;
 ghost use mathlib.Core.Path.{_≡_};
 ghost use lib.ListN.{length};
-ghost use Rattle.linkfile.specs.Checked.{checked};
-ghost use Rattle.linkfile.specs.Rows.{rowView};
 ghost use Rattle.portion.specs.Listing.{startSaid};
 ghost use Rattle.portion.specs.Answers.{answerSaid};
-ghost use Rattle.outside.specs.Encoded.{verdictNumber, fewestNumber, Small, listedNumber, PortionNumber, JoinNumber, asking};
+ghost use Rattle.outside.specs.Encoded.{CheckNumber, RowNumber, FewestNumber, Small, listedNumber, PortionNumber, JoinNumber, asking};
 ghost use Rattle.outside.specs.HeldCells.{heldOf, heldCells, HeldNumber};
 use held::Held;
 
 // Passed: n + m * 2^16 + f * 2^32.
 #[no_mangle]
 pub extern "C" fn kin_check(file: &[u8]) -> u64
-    ensures { λ r. ⌜ r ≡ verdictNumber (checked (now (file .entry))) ⌝ }
+    ensures { λ r. ⌜ CheckNumber (now (file .entry)) r ⌝ }
 {
     match linkfile::check(file) {
         Verdict::Passed {
@@ -35,7 +33,7 @@ pub extern "C" fn kin_check(file: &[u8]) -> u64
 // The length in bytes of the row view: 0 where it is empty.
 #[no_mangle]
 pub extern "C" fn kin_row(file: &[u8], person: u32) -> u64
-    ensures { λ r. ⌜ r ≡ length (rowView (now (file .entry)) person) ⌝ }
+    ensures { λ r. ⌜ RowNumber (now (file .entry)) person r ⌝ }
 {
     linkfile::row(file, person).len() as u64
 }
@@ -66,7 +64,7 @@ pub extern "C" fn kin_fewest(
     last: u32,
     person: u32,
 ) -> u64
-    ensures { λ r. ⌜ r ≡ fewestNumber (now (file .entry)) (asking from to hops classes meaning first last) person ⌝ }
+    ensures { λ r. ⌜ FewestNumber (now (file .entry)) (asking from to hops classes meaning first last) person r ⌝ }
 {
     let question = Question {
         from,
@@ -203,7 +201,8 @@ pub extern "C" fn kin_held(cells: &mut [u32], file: &[u8], out: &mut [u32]) -> u
     if cells.len() != HELD {
         return 0x8000_0000_0000_0000;
     }
-    let outcome = held::moved(held_of(cells), file, out);
+    let before = held_of(cells);
+    let outcome = held::advanced(before, file, out);
     let after = outcome.held;
     let answer = outcome.answer;
     keep(cells, after);

@@ -7,16 +7,17 @@ use Prim.Native.Nat.{ℕ, zero, suc, _+_, _*_, _-_, _<_, _≤_}
 use native.Mathlib.Nat.{zero-add}
 use native.Mathlib.Omega.{arith}
 use lib.ListN.{length, take, drop}
-use lib.Seq.{take-at, take-add, drop-drop}
+use lib.Seq.{take-at, take-add, drop-drop, drop-append-add}
 use borrow.Author.Tests.{le-leb}
 use Rattle.linkfile.specs.Verdict.{Fault, sound, fault, unless}
 use Rattle.linkfile.proofs.Passed.{sound-rules}
+use Rattle.linkfile.proofs.Linked.{unless-none}
 use Rattle.ways.specs.Graph.{_∈_}
 use Rattle.ways.specs.Order.{Before, Rising}
 use Rattle.ways.specs.Portions.{after, portion, endedAfter, lastOr}
 use Rattle.ways.specs.Records.{Fits, recordOf, chainOf, cellsOf, written, roomOf, isRecordIn}
 use Rattle.ways.proofs.Portions.{lastOr-cases, after-portion, ended-iff, real-chains}
-use Rattle.ways.proofs.After.{after-from, after-all}
+use Rattle.ways.proofs.After.{after-from, after-all, after-part}
 use Rattle.ways.proofs.Members.{take-in}
 use Rattle.ways.proofs.Ordered.{ordered}
 use Rattle.ways.proofs.Records.{listing-fits, length-cellsOf, cellsOf-append, chainOf-recordOf, shaped-recordOf, isRecordIn-iff}
@@ -26,7 +27,7 @@ use Rattle.question.specs.Admission.{next}
 use Rattle.question.proofs.Leads.{next-rising}
 use Rattle.portion.specs.Listing.{recordSize, listingFor, Start, fresh, after as following, startsAfter, startFault, portionFault, portionFor, endedFor}
 use Rattle.portion.specs.Answers.{Answer, listed, refused, answerSaid, answerFor, cellsFor, Portioned}
-use Rattle.portion.specs.EndToEnd.{Call, countOf, saysEnded, wrote, lastRecord, startBehind, Run, done, call, allWrote, allRoom, EndsRight, LaidEndToEnd}
+use Rattle.portion.specs.EndToEnd.{Call, countOf, saysEnded, wrote, lastRecord, startBehind, Run, done, call, allWrote, allRoom, EndsRight, LaidFrom, LaidEndToEnd, Resumed}
 use Rattle.portion.specs.declared.Answer as code
 use Rattle.portion.proofs.Starting.{asked-file, asked-proper}
 use Rattle.portion.proofs.Records.{last-record}
@@ -43,7 +44,7 @@ module _ (file : List ℕ) (q : Question) (asked : askedFault file q ≡ sound) 
   portion-in r b m = after-from b (listingFor file q) (take-in r (after b (listingFor file q)) m) .0
 
   -- what a call that is not refused says and writes
-  passes : (start : Start) (out : List ℕ) → startFault (listingFor file q) start ≡ sound → recordSize ≤ length out → portionFault file q start out ≡ sound
+  pub passes : (start : Start) (out : List ℕ) → startFault (listingFor file q) start ≡ sound → recordSize ≤ length out → portionFault file q start out ≡ sound
   unfolding portionFault
   passes start out s h = rw (asked, le-leb recordSize (length out) h) s
 
@@ -107,3 +108,14 @@ pub laid-end-to-end : (file : List ℕ) (q : Question) → askedFault file q ≡
 laid-end-to-end file q asked {calls} r =
     let laid = run-laid file q asked calls fresh 0 refl (after-all [] (listingFor file q) (real-chains (next file q) (next-rising (sound-rules file (asked-file file q asked)) q) (q .from) (q .to) (q .hops))) r in
     record { cells = laid .0; ends = laid .1 }
+
+-- and from a bookmark that passes
+pub laid-behind : (file : List ℕ) (q : Question) → askedFault file q ≡ sound → (bookmark : List ℕ) → startFault (listingFor file q) (following bookmark) ≡ sound → {calls : List Call}
+    → Run file q (following bookmark) calls → Resumed file q bookmark calls
+laid-behind file q asked bookmark passing {calls} r =
+    let L = listingFor file q in
+    let chain = isRecordIn-iff recordSize L bookmark (fits file q asked) .0 (unless-none (isRecordIn recordSize L bookmark) 17 0 passing .0) in
+    let part = after-part (chainOf bookmark) L (rises file q asked) (chain .1) in
+    let at : after (chainOf bookmark) L ≡ drop (length (part .0) + 1) L = sym (drop-append-add (part .0) (chainOf bookmark ∷ after (chainOf bookmark) L) 1) ∙ ap (drop (length (part .0) + 1)) (sym (part .1)) in
+    let laid = run-laid file q asked calls (following bookmark) (length (part .0) + 1) passing at r in
+    record { before = part .0; behind = after (chainOf bookmark) L; stands = part .1; laid = record { cells = laid .0; ends = laid .1 } }

@@ -5,7 +5,7 @@ use mathlib.Core.Bool.{Bool, true, false}
 use mathlib.Core.List.{List, [], _∷_, _++_}
 use Prim.Native.Nat.{ℕ, zero, suc, _+_, _*_, _-_, _≤_}
 use lib.ListN.{length, take, drop}
-use Rattle.ways.specs.Records.{roomOf, cellsOf}
+use Rattle.ways.specs.Records.{chainOf, roomOf, cellsOf}
 use Rattle.question.specs.declared.Question.{Question}
 use Rattle.portion.specs.declared.Answer as code
 use Rattle.portion.specs.Listing.{recordSize, listingFor, Start, fresh, after}
@@ -59,8 +59,19 @@ EndsRight L n [] = Unit {0}
 EndsRight L n (c ∷ calls) =
     ((saysEnded (answerSaid (c .answer)) ≡ true) ↔ (drop (n + roomOf recordSize (length (c .out))) L ≡ [])) × EndsRight L (n + roomOf recordSize (length (c .out))) calls
 
--- demand 3: the records laid end to end are those of the first chains of the listing, as many as the rooms add up to, or all;
--- and each call says ended exactly where no chain follows
-pub record LaidEndToEnd (file : List ℕ) (q : Question) (calls : List Call) : Type 0 where
-  pub cells : allWrote calls ≡ cellsOf recordSize (take (allRoom calls) (listingFor file q))
-  pub ends : EndsRight (listingFor file q) 0 calls
+-- from behind n chains on: the records laid end to end are those of the chains that come then, as many as the rooms add up to, or all; and
+-- each call says ended exactly where no chain follows
+pub record LaidFrom (file : List ℕ) (q : Question) (n : ℕ) (calls : List Call) : Type 0 where
+  pub cells : allWrote calls ≡ cellsOf recordSize (take (allRoom calls) (drop n (listingFor file q)))
+  pub ends : EndsRight (listingFor file q) n calls
+
+-- demand 3: the same from the first chain on
+abbrev pub LaidEndToEnd : List ℕ → Question → List Call → Type 0
+LaidEndToEnd file q calls = LaidFrom file q 0 calls
+
+-- and after a bookmark, whoever kept it: from the chain behind its own on
+pub record Resumed (file : List ℕ) (q : Question) (bookmark : List ℕ) (calls : List Call) : Type 0 where
+  pub before : List (List ℕ)
+  pub behind : List (List ℕ)
+  pub stands : listingFor file q ≡ before ++ chainOf bookmark ∷ behind
+  pub laid : LaidFrom file q (length before + 1) calls

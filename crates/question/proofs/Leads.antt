@@ -2,18 +2,19 @@
 use mathlib.Core.Path.{_≡_, refl, sym}
 use mathlib.Core.Logic.{_⊎_, inl, inr}
 use mathlib.Core.Bool.{Bool, true, false, cond}
-use mathlib.Core.List.{List, [], _∷_, map, List·Memᴰ·not-nil, List·Memᴰ·cases-cons, Memᴰ·of-map}
+use mathlib.Core.List.{List, [], _∷_, map, List·Memᴰ·head, List·Memᴰ·tail, List·Memᴰ·not-nil, List·Memᴰ·cases-cons, Memᴰ·map, Memᴰ·of-map, Memᴰ·cast}
 use Prim.Native.Nat.{ℕ, zero, suc, _+_, _-_, _≤_, _<_}
 use lib.Dec.{ltb}
 use native.Mathlib.Omega.{arith}
+use native.Mathlib.Decide.{decLe}
 use borrow.Author.Tests.{ltb-true, lt-ltb, le-ltb}
 use Rattle.ways.specs.Graph.{_∈_, pick, keep}
 use Rattle.ways.specs.Order.{Rising}
-use Rattle.ways.proofs.Members.{keep-from}
+use Rattle.ways.proofs.Members.{keep-from, keep-in}
 use Rattle.linkfile.specs.Format.{personCount, row, target}
 use Rattle.linkfile.proofs.Passed.{Passed}
 use Rattle.linkfile.proofs.Linked.{passed-link}
-use Rattle.question.specs.Admission.{admitted, numbersFrom, owned, next}
+use Rattle.question.specs.Admission.{admitted, numbersFrom, owned, next, AdmittedLink}
 use Rattle.question.specs.declared.Question.{Question}
 
 -- the persons that the admitted ones of so many links lead to
@@ -64,26 +65,34 @@ module _ (f : ℕ → ℕ) (test : ℕ → Bool) where
       go true above rises = (above, rises)
       go false above rises = rises
 
--- how v comes to be next
-pub record Led (file : List ℕ) (q : Question) (person v : ℕ) : Type 0 where
-  pub link : ℕ
-  pub inside : person < personCount file
-  pub low : row file person ≤ link
-  pub high : link < row file (person + 1)
-  pub admits : admitted file q link ≡ true
-  pub leads : v ≡ target file link
-
-pub next-led : (file : List ℕ) (q : Question) (person : ℕ) {v : ℕ} → v ∈ next file q person → Led file q person v
+-- whoever is next is so by an admitted link, and the other way round
+pub next-led : (file : List ℕ) (q : Question) (person : ℕ) {v : ℕ} → v ∈ next file q person → AdmittedLink file q person v
 unfolding next
 next-led file q person {v} m = go (ltb person (personCount file)) refl m
   where
-    go : (t : Bool) → ltb person (personCount file) ≡ t → v ∈ cond t (led file q (row file person) (row file (person + 1) - row file person)) [] → Led file q person v
+    go : (t : Bool) → ltb person (personCount file) ≡ t → v ∈ cond t (led file q (row file person) (row file (person + 1) - row file person)) [] → AdmittedLink file q person v
     go true e m =
         let r = Memᴰ·of-map (target file) (keep (admitted file q) (owned file person)) m in
         let k = keep-from (admitted file q) (owned file person) (r .1) in
         let l = numbers-lie (row file person) (row file (person + 1) - row file person) (k .0) in
         record { link = r .0; inside = ltb-true person (personCount file) e; low = l .0; high = omega arith; admits = k .1; leads = sym (r .2) }
     go false e m = absurd (List·Memᴰ·not-nil m)
+
+-- a number that lies among so many from one on is one of them
+lie-numbers : (from count x : ℕ) → from ≤ x → x < from + count → x ∈ numbersFrom from count
+unfolding numbersFrom
+lie-numbers from zero x low high = absurd (omega arith)
+lie-numbers from (suc count) x low high = go (decLe (suc from) x) (λ l. lie-numbers (suc from) count x l (omega arith))
+  where
+    go : Dec (suc from ≤ x) → (suc from ≤ x → x ∈ numbersFrom (suc from) count) → x ∈ from ∷ numbersFrom (suc from) count
+    go (yes l) on = List·Memᴰ·tail (on l)
+    go (no n) on = let e : x ≡ from = omega arith in List·Memᴰ·head e
+
+pub led-next : (file : List ℕ) (q : Question) (person : ℕ) {v : ℕ} → AdmittedLink file q person v → v ∈ next file q person
+unfolding next
+led-next file q person {v} l =
+    let among = lie-numbers (row file person) (row file (person + 1) - row file person) (l .link) (l .low) (omega (arith, l .low, l .high)) in
+    rw (lt-ltb person (personCount file) (l .inside)) (Memᴰ·cast (l .leads) (Memᴰ·map (target file) (keep-in (admitted file q) among (l .admits))))
 
 -- nobody from whoever is not in the file
 pub next-none : (file : List ℕ) (q : Question) (person : ℕ) → personCount file ≤ person → next file q person ≡ []

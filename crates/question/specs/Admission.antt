@@ -1,7 +1,8 @@
 -- Which links are admitted, and whom they lead to. Definitions only.
+use mathlib.Core.Path.{_≡_}
 use mathlib.Core.List.{List, [], _∷_, map}
-use mathlib.Core.Bool.{Bool, false, _&&_, _||_, cond}
-use Prim.Native.Nat.{ℕ, zero, suc, _+_, _-_, _/_, _%_}
+use mathlib.Core.Bool.{Bool, true, false, _&&_, _||_, cond}
+use Prim.Native.Nat.{ℕ, zero, suc, _+_, _-_, _/_, _%_, _≤_, _<_}
 use lib.Dec.{eqb, ltb}
 use Rattle.linkfile.specs.Numbers.{within}
 use Rattle.linkfile.specs.Format.{personCount, meaning, row, target, day, feedIndex, kind}
@@ -35,3 +36,12 @@ owned file person = numbersFrom (row file person) (row file (person + 1) - row f
 -- the persons that a person's admitted links lead to, in row order; nobody from a person who is not in the file
 unfoldable pub next : List ℕ → Question → Graph
 next file q person = cond (ltb person (personCount file)) (map (target file) (keep (admitted file q) (owned file person))) []
+
+-- the same by one link: a link of a person of the file that is admitted, and whose target is v
+pub record AdmittedLink (file : List ℕ) (q : Question) (person v : ℕ) : Type 0 where
+  pub link : ℕ
+  pub inside : person < personCount file
+  pub low : row file person ≤ link
+  pub high : link < row file (person + 1)
+  pub admits : admitted file q link ≡ true
+  pub leads : v ≡ target file link

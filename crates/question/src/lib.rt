@@ -3,7 +3,7 @@
 // Seven numbers, whoever sends them. This room refuses a bad question with its number and place, says which links it admits,
 // and turns bytes into the compact graph that every later room sees: once a file and a question have passed, listing and
 // searching read `next` and no byte.
-pub mod admission;
+mod admission;
 pub mod faults;
 pub mod filling;
 

@@ -11,14 +11,14 @@ returns c = record { wrongSize = λ n. (refl, refl, refl); moved = λ e. absurd 
 
 listed-number-requires : tie.Need-listed-number-requires
 listed-number-requires c κs =
-    let at-moved = c .before .before .before .before .before .before .before .moved in
+    let at-moved = c .before .before .before .before .before .before .before .advanced in
     let at-start = c .before .before .before .before .before .before .before .before .before .before .before .before .before .before .before in
     portion-small (at-moved .ensures .portioned) (omega (arith, at-start .good))
 
 returns-2 : tie.Need-returns-2
 returns-2 c =
     let at-if1 = c .before .before .before .before .before .before .before .before .before .before .before .before .if1 in
-    let at-moved = c .before .before .before .before .before .before .before .before .moved in
+    let at-moved = c .before .before .before .before .before .before .before .before .advanced in
     let at-held-of = c .before .before .before .before .before .before .before .before .before .before .held-of in
     record {
       wrongSize = λ n. absurd (n (at-if1 .left));

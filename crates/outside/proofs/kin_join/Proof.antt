@@ -1,7 +1,5 @@
 -- `kin_join` meets its contract: the join's answer has room in 64 bits.
-use mathlib.Core.Path.{ap, _∙_}
 use native.Mathlib.Omega.{arith}
-use Rattle.outside.specs.Encoded.{listedNumber}
 use Rattle.outside.proofs.Numbered.{join-small}
 use borrow.Author.Needs.{needs}
 use Rattle.outside.proofs.kin_join.Statement.{statement}
@@ -15,7 +13,7 @@ listed-number-requires c κs =
 returns : tie.Need-returns
 returns c =
     let at-join = c .before .before .before .before .before .join in
-    record { answers = c .listed-number .ensures ∙ ap listedNumber (at-join .ensures .answers); shelf = at-join .ensures .shelf; cells = at-join .ensures .cells }
+    record { answer = at-join .result; joins = at-join .ensures; answers = c .listed-number .ensures }
 
 pub kin-join-spec : {M : Type 1} → statement M
 kin-join-spec =

@@ -1,0 +1,6 @@
+-- The statements of specs/, proved from the rooms' own laws.
+pub mod OneResult
+pub mod Ending
+pub mod Paths
+pub mod Laid
+pub mod Demands

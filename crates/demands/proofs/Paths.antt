@@ -1,0 +1,103 @@
+-- Demand 2: the simple paths of the customer's words are the chains over the graph of the admitted links, and these are what is listed.
+use mathlib.Core.Path.{_≡_, refl, sym, ap, _∙_}
+use mathlib.Core.Logic.{_≢_, _↔_}
+use mathlib.Core.List.{List, [], _∷_}
+use Prim.Native.Nat.{ℕ, _≤_, _<_}
+use native.Mathlib.Omega.{arith}
+use lib.ListN.{length}
+use borrow.Author.Tests.{le-leb}
+use Rattle.linkfile.specs.Verdict.{sound}
+use Rattle.linkfile.proofs.Passed.{sound-rules}
+use Rattle.ways.specs.Graph.{_∈_}
+use Rattle.ways.specs.Chain.{Linked, Chain}
+use Rattle.ways.specs.Order.{Rising}
+use Rattle.ways.proofs.Listed.{exact}
+use Rattle.ways.proofs.Ordered.{ordered, once-each, determined}
+use Rattle.ways.proofs.Portions.{real-chains}
+use Rattle.ways.proofs.After.{after-all}
+use Rattle.ways.proofs.ByHops.{byHops-iff, byHops-ordered, byHops-once}
+use Rattle.question.specs.declared.Question.{Question}
+use Rattle.question.specs.Asked.{askedFault}
+use Rattle.question.specs.Admission.{next}
+use Rattle.question.proofs.Leads.{next-led, led-next, next-rising}
+use Rattle.portion.specs.Listing.{recordSize, listingFor, fresh}
+use Rattle.portion.specs.Answers.{Portioned}
+use Rattle.portion.specs.declared.Answer.{Answer}
+use Rattle.portion.proofs.Starting.{asked-file, asked-proper}
+use Rattle.portion.proofs.LaidEnd.{passes}
+use Rattle.join.specs.Lists.{halvesFor, chainsFor, halvesFault, joinFault}
+use Rattle.join.specs.Answers.{Joins}
+use Rattle.demands.specs.Paths.{Reached, SimplePath}
+use Rattle.demands.specs.Demands.{Lists, DemandTwo}
+
+module _ (file : List ℕ) (q : Question) where
+  reached-linked : (c : List ℕ) → Reached file q c → Linked (next file q) c
+  reached-linked [] r = tt
+  reached-linked (p ∷ []) r = tt
+  reached-linked (p ∷ v ∷ c) r = (led-next file q p (r .0), reached-linked (v ∷ c) (r .1))
+
+  linked-reached : (c : List ℕ) → Linked (next file q) c → Reached file q c
+  linked-reached [] l = tt
+  linked-reached (p ∷ []) l = tt
+  linked-reached (p ∷ v ∷ c) l = (next-led file q p (l .0), linked-reached (v ∷ c) (l .1))
+
+  path-chain : (c : List ℕ) → SimplePath file q c → Chain (next file q) (q .from) (q .to) (q .hops) c
+  path-chain [] s = absurd (s .first)
+  path-chain (p ∷ c) s =
+      record {
+        first = s .first;
+        last = s .last;
+        linked = reached-linked (p ∷ c) (s .reached);
+        once = s .different;
+        some = omega (arith, s .some);
+        few = omega (arith, s .few);
+      }
+
+  chain-path : (c : List ℕ) → Chain (next file q) (q .from) (q .to) (q .hops) c → SimplePath file q c
+  chain-path [] h = absurd (h .first)
+  chain-path (p ∷ c) h =
+      record {
+        some = omega (arith, h .some);
+        few = omega (arith, h .few);
+        different = h .once;
+        first = h .first;
+        last = h .last;
+        reached = linked-reached (p ∷ c) (h .linked);
+      }
+
+  module _ (asked : askedFault file q ≡ sound) where
+    rows : (p : ℕ) → Rising _<_ (next file q p)
+    rows = next-rising (sound-rules file (asked-file file q asked)) q
+
+    differ : q .from ≢ q .to
+    differ = asked-proper file q asked .differ
+
+    is-chain : (c : List ℕ) → c ∈ listingFor file q ↔ Chain (next file q) (q .from) (q .to) (q .hops) c
+    is-chain = exact (next file q) (q .from) (q .to) (q .hops) differ
+
+    portion-lists : {out out′ : List ℕ} {answer : Answer} → recordSize ≤ length out → Portioned file q fresh out out′ answer → Lists (listingFor file q) out out′ answer
+    portion-lists {out} h p =
+        let passing = passes file q asked fresh out refl h in
+        let all = after-all [] (listingFor file q) (real-chains (next file q) rows (q .from) (q .to) (q .hops)) in
+        record { says = p .answers ∙ rw (passing, all); cells = p .cells ∙ rw (passing, all) }
+
+    join-lists : {working working′ out out′ : List ℕ} {answer : Answer} → recordSize ≤ length out → halvesFault recordSize (length working) (halvesFor file q) ≡ sound
+        → Joins file q working working′ out out′ answer → Lists (chainsFor file q) out out′ answer
+    join-lists {working} {out = out} h fit j =
+        let passing : joinFault file q working out ≡ sound = rw (asked, le-leb recordSize (length out) h) fit in
+        record { says = j .answers ∙ rw passing; cells = j .cells ∙ rw passing }
+
+    pub demand-two : DemandTwo file q
+    demand-two =
+        record {
+          every = λ c s. is-chain c .1 (path-chain c s);
+          nothingElse = λ c m. chain-path c (is-chain c .0 m);
+          once = once-each (next file q) rows (q .from) (q .to) (q .hops);
+          inOrder = ordered (next file q) rows (q .from) (q .to) (q .hops);
+          noOther = λ L r same. determined (next file q) rows (q .from) (q .to) (q .hops) differ L r (λ c. (λ m. path-chain c (same c .0 m), λ h. same c .1 (chain-path c h)));
+          portion = portion-lists;
+          joinsTheSame = byHops-iff (next file q) (q .from) (q .to) (q .hops);
+          joinsOnce = byHops-once (next file q) (q .from) (q .to) rows (q .hops);
+          shortestFirst = byHops-ordered (next file q) (q .from) (q .to) rows (q .hops);
+          join = join-lists;
+        }
