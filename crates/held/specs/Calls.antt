@@ -12,8 +12,8 @@ use Rattle.portion.specs.declared.Answer as code
 use Rattle.held.specs.declared.Held.{Held}
 use Rattle.held.specs.Holding.{MovedOn}
 
--- the calls led from one held listing to another, each by the promise and with room for a record at least; those that were refused in
--- between, for want of room, are not among them
+-- the calls led from one held listing to another, each by the promise and with room for a record at least; those that were
+-- refused in between, as for want of room, are not among them
 pub data Run (file : List ℕ) : Held → List Call → Held → Type 0 where
   rests : {held : Held} → Run file held [] held
   moves : {held between held′ : Held} {call : Call} {calls : List Call} → MovedOn file held between (call .out) (call .exit) (call .answer) → recordSize ≤ length (call .out)

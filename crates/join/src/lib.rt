@@ -1,6 +1,6 @@
 // The join: chains put together of two halves that share only the middle person.
 //
-// All half chains, the simple sequences that end at To and pass by From, are counted first and then written to the lent
+// All half chains, the simple sequences that end at To and do not visit From, are counted first and then written to the lent
 // working cells; then the chains of 1, 2, .. hops are found by their left halves, each with the right halves that start
 // where it ends. It promises the listing by hops, shorter first, then in dictionary order, and every cell that it leaves.
 mod chains;

@@ -1,3 +1,4 @@
+-- Laws of this room: what the looks find, what a file that passes is, and one result only.
 pub mod Classes
 pub mod Faults
 pub mod Counted

@@ -1,3 +1,4 @@
+-- The link file in the order of the customer's document, its refusals, and the promises of check and row view. Definitions only.
 pub mod Numbers
 pub mod Format
 pub mod Kinds

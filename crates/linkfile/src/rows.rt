@@ -39,7 +39,7 @@ fn ends(file: &[u8], counts: Counts, at: usize) -> bool
     true
 }
 
-// One entry.
+// The rule of one entry, clause by clause: the first starts at 0, none falls, the last is the number of links.
 fn row_fault(file: &[u8], counts: Counts, at: usize) -> Fault
     requires { ⌜ (Laid (now file) counts) × (at ≤ counts .persons) ⌝ }
     ensures { λ r. ⌜ faultSaid r ≡ rowFault (now (file .entry)) at ⌝ }

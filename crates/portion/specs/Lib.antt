@@ -1,3 +1,4 @@
+-- The listing of a file and a question, the promise of the portion (Answers), and calls laid end to end. Definitions only.
 pub mod Listing
 pub mod Bookmark
 pub mod Inside

@@ -31,7 +31,7 @@ fn leads(starts: &[u16; STARTS], targets: &[u16; LINKS], person: u32, next: u32)
     false
 }
 
-// Whether a person stands in the cells from `at` up to but without `end`.
+// Whether a person stands in the cells from `first` up to but without `end`.
 fn stands(cells: &[u32], first: usize, end: usize, person: u32) -> bool
     requires { ⌜ (first ≤ end) × (end ≤ length (now cells)) ⌝ }
     ensures { λ r. ⌜ r ≡ among person (slice first end (now (cells .entry))) ⌝ }

@@ -1,3 +1,4 @@
+-- Laws of this room: what a question that passes is, whom admitted links lead to, and how the graph grows.
 pub mod Refused
 pub mod Numbered
 pub mod Classed

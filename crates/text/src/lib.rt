@@ -24,7 +24,7 @@ pub struct Page {
     pub bytes: usize,
 }
 
-// Some words.
+// Words as they stand, from a byte on; answers where the next ones go.
 fn put(words: &[u8], out: &mut [u8], at: usize) -> usize
     requires { ⌜ at + length (now words) ≤ length (now out) ⌝ }
     ensures { λ r. ⌜ Printed (now (out .entry)) at (now (words .entry)) (now (out .exit)) r ⌝ }
