@@ -1,6 +1,6 @@
 -- The join over the compact graph: what it hands down is as its functions ask, and what comes back are the half chains and the chains by hops.
 use mathlib.Core.Path.{_≡_, refl, sym, ap, subst, _∙_}
-use mathlib.Core.Bool.{Bool, true, false}
+use mathlib.Core.Bool.{Bool, true, false, cond}
 use mathlib.Core.List.{List, [], _∷_, _++_, map, map-append}
 use mathlib.Core.Logic.{_≢_, ⊎-elim}
 use Prim.Native.Nat.{ℕ, zero, suc, _+_, _*_, _/_, _≤_, _<_}
@@ -10,7 +10,7 @@ use lib.Dec.{eqb, ltb, leb}
 use native.Mathlib.Omega.{arith}
 use borrow.Author.Tests.{eq-eqb, lt-ltb, le-ltb, le-leb, lt-leb}
 use Rattle.linkfile.specs.Verdict.{Fault, sound, fault}
-use Rattle.ways.specs.Graph.{Graph, _∈_, pick, keep}
+use Rattle.ways.specs.Graph.{Graph, _∈_, keep}
 use Rattle.ways.specs.Listing.{ways, listing}
 use Rattle.ways.specs.Records.{recordOf, Fits, written}
 use Rattle.ways.specs.ByHops.{shorterFirst, chainsOf, byHops}
@@ -92,7 +92,7 @@ module _ {rows targets : List ℕ} {from to hops : ℕ} (k : Passed rows targets
       pub counted-cells : working₁ ≡ working
       counted-cells = ap (λ (q : Page). q .cells) (c .right) ∙ emits-cells (length working / size) (page nothing working) _
 
-      counted-more : found .more ≡ pick (ltb (length working / size) (length (halvesIn rows targets from to hops))) 1 0
+      counted-more : found .more ≡ cond (ltb (length working / size) (length (halvesIn rows targets from to hops))) 1 0
       counted-more =
           ap (λ (q : Page). q .more) (c .right)
           ∙ ap (λ (l : List (List ℕ)). emits 0 (length working / size) (page nothing working) l .more) (shelved-halves refl)
@@ -117,7 +117,7 @@ module _ {rows targets : List ℕ} {from to hops : ℕ} (k : Passed rows targets
         room : length (halvesIn rows targets from to hops) ≤ length working / size
         room = fits-all z
 
-        page-written : page found₂ working₂ ≡ record { count = length (take (length working / size) (halvesIn rows targets from to hops)); more = pick (ltb (length working / size) (length (halvesIn rows targets from to hops))) 1 0; cells = written size (take (length working / size) (halvesIn rows targets from to hops)) working }
+        page-written : page found₂ working₂ ≡ record { count = length (take (length working / size) (halvesIn rows targets from to hops)); more = cond (ltb (length working / size) (length (halvesIn rows targets from to hops))) 1 0; cells = written size (take (length working / size) (halvesIn rows targets from to hops)) working }
         page-written =
             w .right
             ∙ ap (λ (l : List ℕ). emits 1 (length l / size) (page nothing l) (map (recordWith blank 0) (halvesBefore (graphOf rows targets) (rightsOf (set blank 1 to) ending 0) marks (places hops)))) counted-cells
@@ -161,14 +161,14 @@ module _ {rows targets : List ℕ} {from to hops : ℕ} (k : Passed rows targets
           chains-fit : (x : List ℕ) → x ∈ byHops (graphOf rows targets) from to hops → Fits size x
           chains-fit x m = listing-fits (graphOf rows targets) from to hops size (omega (arith, k .few)) x (byHops-iff (graphOf rows targets) from to hops x .0 m)
 
-          ended : (d n : ℕ) → eqb (pick (ltb d n) 1 0) 0 ≡ leb n d
+          ended : (d n : ℕ) → eqb (cond (ltb d n) 1 0) 0 ≡ leb n d
           ended d n = ⊎-elim (λ l. rw (lt-ltb d n l, lt-leb n d l)) (λ l. rw (le-ltb d n l, le-leb n d l)) (lt-or-le d n)
 
           pub graph-joined : {marks₃ : List Bool} {out out′ : List ℕ} {found₃ : Found} → Gathered rows targets working₂ index₂ marks₂ marks₃ out out′ from hops found₃
               → JoinsIn rows targets from to hops working working₂ out out′ (code.the-variants.Listed (found₃ .count) (eqb (found₃ .more) 0))
           graph-joined {out = out} {out′} {found₃} g =
               let C = byHops (graphOf rows targets) from to hops in
-              let done : page found₃ out′ ≡ record { count = length (take (length out / size) C); more = pick (ltb (length out / size) (length C)) 1 0; cells = written size (take (length out / size) C) out } =
+              let done : page found₃ out′ ≡ record { count = length (take (length out / size) C); more = cond (ltb (length out / size) (length C)) 1 0; cells = written size (take (length out / size) C) out } =
               g .right
               ∙ ap (emits 1 (length out / size) (page nothing out))
               (records-first from (fromOne (waysOf (graphOf rows targets) working₂ index₂ marks₂ from) hops) (λ x m. chains-fit x (subst (λ l. x ∈ l) chains-joined m)) ∙ ap (map (recordOf size)) chains-joined)

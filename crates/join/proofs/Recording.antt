@@ -1,6 +1,6 @@
 -- From the account of what was handed over to the cells: records of chains, the first of them where there is room.
 use mathlib.Core.Path.{_≡_, refl, sym, ap, _∙_}
-use mathlib.Core.Bool.{Bool, true, false}
+use mathlib.Core.Bool.{Bool, true, false, cond}
 use mathlib.Core.List.{List, [], _∷_, _++_, map, append-assoc, List·Memᴰ·head, List·Memᴰ·tail}
 use mathlib.Core.Logic.{⊎-elim}
 use Prim.Native.Nat.{ℕ, zero, suc, _+_, _-_, _*_, _/_, _≤_, _<_, min}
@@ -11,7 +11,7 @@ use native.Mathlib.Omega.{arith}
 use native.Mathlib.Nat.{add-zero, zero-add, zero-min, min-zero, suc-min-suc, sub-zero}
 use native.Mathlib.Numerals.{add-one, one-add}
 use borrow.Author.Tests.{eq-eqb, ne-eqb, lt-ltb, le-ltb, le-leb, lt-leb}
-use Rattle.ways.specs.Graph.{_∈_, pick}
+use Rattle.ways.specs.Graph.{_∈_}
 use Rattle.ways.specs.Chain.{hops}
 use Rattle.ways.specs.Records.{recordOf, Fits, cellsOf, written}
 use Rattle.ways.proofs.Records.{length-recordOf}
@@ -54,7 +54,7 @@ unfolding emits
 emits-cells room s [] = refl
 emits-cells room s (x ∷ xs) = emits-cells room (emit 0 room s x) xs ∙ go (eqb (s .more) 0) (ltb (s .count) room)
   where
-    go : (a b : Bool) → pick a (pick b (record { count = s .count + 1; more = 0; cells = s .cells }) (record { count = s .count; more = 1; cells = s .cells })) s .cells ≡ s .cells
+    go : (a b : Bool) → cond a (cond b (record { count = s .count + 1; more = 0; cells = s .cells }) (record { count = s .count; more = 1; cells = s .cells })) s .cells ≡ s .cells
     go true true = refl
     go true false = refl
     go false b = refl
@@ -66,8 +66,8 @@ emits-noted room [] count more cells cells′ = refl
 emits-noted room (x ∷ xs) count more cells cells′ = go (eqb more 0) (ltb count room) (λ c n d. emits-noted room xs c n cells d)
   where
     go : (a b : Bool) → ((c n : ℕ) (d : List ℕ) → emits 0 room (record { count = c; more = n; cells = cells }) xs .more ≡ emits 1 room (record { count = c; more = n; cells = d }) xs .more)
-        → emits 0 room (pick a (pick b (record { count = count + 1; more = 0; cells = cells }) (record { count = count; more = 1; cells = cells })) (record { count = count; more = more; cells = cells })) xs .more
-        ≡ emits 1 room (pick a (pick b (record { count = count + 1; more = 0; cells = paste cells′ (count * size) x size }) (record { count = count; more = 1; cells = cells′ })) (record { count = count; more = more; cells = cells′ })) xs .more
+        → emits 0 room (cond a (cond b (record { count = count + 1; more = 0; cells = cells }) (record { count = count; more = 1; cells = cells })) (record { count = count; more = more; cells = cells })) xs .more
+        ≡ emits 1 room (cond a (cond b (record { count = count + 1; more = 0; cells = paste cells′ (count * size) x size }) (record { count = count; more = 1; cells = cells′ })) (record { count = count; more = more; cells = cells′ })) xs .more
     go true true on = on (count + 1) 0 (paste cells′ (count * size) x size)
     go true false on = on count 1 cells′
     go false b on = on count more cells′
@@ -90,7 +90,7 @@ pasted c front rest r lf h =
 -- with room for d more behind c that are written
 emits-chains : (d c : ℕ) (front rest : List ℕ) (L : List (List ℕ)) → length front ≡ c * size → d * size ≤ length rest → ((x : List ℕ) → x ∈ L → Fits size x)
     → emits 1 (c + d) (record { count = c; more = 0; cells = front ++ rest }) (map (recordOf size) L)
-    ≡ record { count = c + min d (length L); more = pick (ltb d (length L)) 1 0; cells = front ++ (cellsOf size (take d L) ++ drop (min d (length L) * size) rest) }
+    ≡ record { count = c + min d (length L); more = cond (ltb d (length L)) 1 0; cells = front ++ (cellsOf size (take d L) ++ drop (min d (length L) * size) rest) }
 unfolding emits cellsOf
 emits-chains d c front rest [] lf lr f =
     page-eq (rw min-zero (sym (add-zero c))) (rw (le-ltb d 0 (omega arith))) (rw (take-nil, min-zero))
@@ -121,7 +121,7 @@ emits-chains (suc d) c front rest (x ∷ L) lf lr f =
 -- all at once: how many, whether one more, and the cells
 pub emits-written : (out : List ℕ) (L : List (List ℕ)) → ((x : List ℕ) → x ∈ L → Fits size x)
     → emits 1 (length out / size) (page nothing out) (map (recordOf size) L)
-    ≡ record { count = length (take (length out / size) L); more = pick (ltb (length out / size) (length L)) 1 0; cells = written size (take (length out / size) L) out }
+    ≡ record { count = length (take (length out / size) L); more = cond (ltb (length out / size) (length L)) 1 0; cells = written size (take (length out / size) L) out }
 unfolding written
 emits-written out L f =
     let room = length out / size in

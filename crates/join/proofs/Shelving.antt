@@ -12,7 +12,7 @@ use native.Mathlib.Nat.{add-zero}
 use native.Mathlib.Numerals.{add-one}
 use native.Mathlib.Decide.{decLe}
 use borrow.Author.Tests.{eq-eqb, ne-eqb, lt-ltb, le-ltb}
-use Rattle.ways.specs.Graph.{Graph, pick}
+use Rattle.ways.specs.Graph.{Graph}
 use Rattle.ways.specs.Halves.{personsBelow}
 use Rattle.ways.specs.Join.{leftHops, rightHops}
 use Rattle.ways.proofs.Members.{flatMap-append}

@@ -1,6 +1,6 @@
 -- Where the half chains stand: those handed over are the half chains, and by the index those that start at a person are found.
 use mathlib.Core.Path.{_≡_, refl, sym, ap, subst, _∙_, fun-ext}
-use mathlib.Core.Bool.{Bool, true, false}
+use mathlib.Core.Bool.{Bool, true, false, cond}
 use mathlib.Core.List.{List, [], _∷_, _++_, map, flatMap, map-map, append-nil, append-assoc, List·Memᴰ·head, List·Memᴰ·tail, List·Memᴰ·not-nil, List·Memᴰ·cases-cons, List·Memᴰ·append-cases, Memᴰ·append-left, Memᴰ·append-right, Memᴰ·of-map}
 use mathlib.Core.Logic.{_≢_, _⊎_, inl, inr, ⊎-elim}
 use Prim.Native.Nat.{ℕ, zero, suc, _+_, _-_, _*_, _/_, _%_, _≤_, _<_}
@@ -11,7 +11,7 @@ use native.Mathlib.Omega.{arith}
 use native.Mathlib.Nat.{add-zero, add-suc}
 use native.Mathlib.Numerals.{add-one}
 use borrow.Author.Tests.{eq-eqb, ne-eqb, lt-ltb, le-ltb}
-use Rattle.ways.specs.Graph.{Graph, _∈_, pick, among}
+use Rattle.ways.specs.Graph.{Graph, _∈_, among}
 use Rattle.ways.specs.Chain.{Last, Linked, hops}
 use Rattle.ways.specs.Records.{recordOf, Fits, cellsOf, written}
 use Rattle.ways.specs.ByHops.{shorterFirst}
@@ -94,24 +94,24 @@ starting-append [] b p = refl
 starting-append ([] ∷ a) b p = starting-append a b p
 starting-append ((m ∷ h) ∷ a) b p = rw (starting-append a b p) (go (eqb p m))
   where
-    go : (x : Bool) → pick x (h ∷ (startingAt a p ++ startingAt b p)) (startingAt a p ++ startingAt b p) ≡ pick x (h ∷ startingAt a p) (startingAt a p) ++ startingAt b p
+    go : (x : Bool) → cond x (h ∷ (startingAt a p ++ startingAt b p)) (startingAt a p ++ startingAt b p) ≡ cond x (h ∷ startingAt a p) (startingAt a p) ++ startingAt b p
     go true = refl
     go false = refl
 
-starting-map : (q : ℕ) (ws : List (List ℕ)) (p : ℕ) → startingAt (map (_∷_ q) ws) p ≡ pick (eqb p q) ws []
+starting-map : (q : ℕ) (ws : List (List ℕ)) (p : ℕ) → startingAt (map (_∷_ q) ws) p ≡ cond (eqb p q) ws []
 unfolding startingAt
 starting-map q [] p = go (eqb p q)
   where
-    go : (x : Bool) → _≡_ {A = List (List ℕ)} [] (pick x [] [])
+    go : (x : Bool) → _≡_ {A = List (List ℕ)} [] (cond x [] [])
     go true = refl
     go false = refl
 starting-map q (w ∷ ws) p = rw (starting-map q ws p) (go (eqb p q))
   where
-    go : (x : Bool) → pick x (w ∷ pick x ws []) (pick x ws []) ≡ pick x (w ∷ ws) []
+    go : (x : Bool) → cond x (w ∷ cond x ws []) (cond x ws []) ≡ cond x (w ∷ ws) []
     go true = refl
     go false = refl
 
-starting-row : (T : ℕ → List (List ℕ)) (n p : ℕ) → startingAt (flatMap (λ q. map (_∷_ q) (T q)) (personsBelow n)) p ≡ pick (ltb p n) (T p) []
+starting-row : (T : ℕ → List (List ℕ)) (n p : ℕ) → startingAt (flatMap (λ q. map (_∷_ q) (T q)) (personsBelow n)) p ≡ cond (ltb p n) (T p) []
 unfolding personsBelow flatMap startingAt
 starting-row T zero p = rw (le-ltb p 0 (omega arith))
 starting-row T (suc n) p =
@@ -120,7 +120,7 @@ starting-row T (suc n) p =
     ∙ rw (starting-row T n p, append-nil (map (_∷_ n) (T n)), starting-map n (T n) p)
     (three (lt-or-le p n) (same-or-not p n))
   where
-    three : (p < n) ⊎ (n ≤ p) → (p ≡ n) ⊎ (p ≡ n → ⊥) → pick (ltb p n) (T p) [] ++ pick (eqb p n) (T n) [] ≡ pick (ltb p (suc n)) (T p) []
+    three : (p < n) ⊎ (n ≤ p) → (p ≡ n) ⊎ (p ≡ n → ⊥) → cond (ltb p n) (T p) [] ++ cond (eqb p n) (T n) [] ≡ cond (ltb p (suc n)) (T p) []
     three (inl l) e = rw (lt-ltb p n l, lt-ltb p (suc n) (omega arith), ne-eqb p n (λ q. omega arith)) (append-nil (T p))
     three (inr l) (inl e) = rw (le-ltb p n l, lt-ltb p (suc n) (omega arith), eq-eqb p n e) (ap T (sym e))
     three (inr l) (inr i) = rw (le-ltb p n l, le-ltb p (suc n) (omega (arith, i)), ne-eqb p n i)
@@ -192,13 +192,13 @@ module _ {rows targets : List ℕ} (k : Compact rows targets) (s t : ℕ) (from 
     (rights : ℕ → List (List ℕ)) (ends : (p : ℕ) → p < persons → rights p ≡ atEnd t p) (marks : List Bool) (marked : Marked marks (s ∷ [])) where
   -- those that start at p, without p
   abbrev rest-from : ℕ → ℕ → List (List ℕ)
-  rest-from j p = pick (eqb p s) [] (onward (graphOf rows targets) (λ q. eqb q t) j (p ∷ s ∷ []) p)
+  rest-from j p = cond (eqb p s) [] (onward (graphOf rows targets) (λ q. eqb q t) j (p ∷ s ∷ []) p)
 
   taking-half : (j p : ℕ) → p < persons → taking (graphOf rows targets) rights j marks p ≡ map (_∷_ p) (rest-from j p)
   unfolding among
   taking-half j p l = rw (marked .each p, following-onward k t rights ends j (set marks p true) (p ∷ s ∷ []) p (marked-more p l marked) l) (go (eqb p s))
     where
-      go : (b : Bool) → pick (pick b true false) [] (map (_∷_ p) (onward (graphOf rows targets) (λ q. eqb q t) j (p ∷ s ∷ []) p)) ≡ map (_∷_ p) (pick b [] (onward (graphOf rows targets) (λ q. eqb q t) j (p ∷ s ∷ []) p))
+      go : (b : Bool) → cond (cond b true false) [] (map (_∷_ p) (onward (graphOf rows targets) (λ q. eqb q t) j (p ∷ s ∷ []) p)) ≡ map (_∷_ p) (cond b [] (onward (graphOf rows targets) (λ q. eqb q t) j (p ∷ s ∷ []) p))
       go true = refl
       go false = refl
 
@@ -207,7 +207,7 @@ module _ {rows targets : List ℕ} (k : Compact rows targets) (s t : ℕ) (from 
       flatMap-same _ _ (personsBelow persons) (λ p m. go p (eqb p s))
       ∙ sym (halfChains-onward (graphOf rows targets) (k .rising) persons (low-persons k) s t ne to j)
     where
-      go : (p : ℕ) (b : Bool) → map (_∷_ p) (pick b [] (onward (graphOf rows targets) (λ q. eqb q t) j (p ∷ s ∷ []) p)) ≡ pick b [] (map (_∷_ p) (onward (graphOf rows targets) (λ q. eqb q t) j (p ∷ s ∷ []) p))
+      go : (p : ℕ) (b : Bool) → map (_∷_ p) (cond b [] (onward (graphOf rows targets) (λ q. eqb q t) j (p ∷ s ∷ []) p)) ≡ cond b [] (map (_∷_ p) (onward (graphOf rows targets) (λ q. eqb q t) j (p ∷ s ∷ []) p))
       go p true = refl
       go p false = refl
 
@@ -231,7 +231,7 @@ module _ {rows targets : List ℕ} (k : Compact rows targets) (s t : ℕ) (from 
   rest-hops : (j p : ℕ) (w : List ℕ) → w ∈ rest-from j p → length w ≡ j
   rest-hops j p w m = go (eqb p s) m
     where
-      go : (b : Bool) → w ∈ pick b [] (onward (graphOf rows targets) (λ q. eqb q t) j (p ∷ s ∷ []) p) → length w ≡ j
+      go : (b : Bool) → w ∈ cond b [] (onward (graphOf rows targets) (λ q. eqb q t) j (p ∷ s ∷ []) p) → length w ≡ j
       go true i = absurd (List·Memᴰ·not-nil i)
       go false i = onward-from (graphOf rows targets) (λ q. eqb q t) j (p ∷ s ∷ []) p i .exactly
 

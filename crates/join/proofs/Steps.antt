@@ -7,7 +7,7 @@ use lib.ListN.{length, getD, set, take, drop, length-set, length-drop}
 use lib.Seq.{slice, slice-cons, slice-empty, set-set, set-getD, drop-cons}
 use native.Mathlib.Omega.{arith}
 use native.Mathlib.Numerals.{add-one, sub-one}
-use Rattle.ways.specs.Graph.{Graph, pick, keep}
+use Rattle.ways.specs.Graph.{Graph, keep}
 use Rattle.ways.proofs.Members.{keep-append}
 use Rattle.compact.specs.Compact.{persons, graphOf, Compact}
 use Rattle.join.specs.Pages.{size, Page, page, emit, emits, part, recordWith, Room, Handed}

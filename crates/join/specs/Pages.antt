@@ -1,11 +1,11 @@
 -- What is handed over: records one behind the other, while there is room. Definitions only.
 use mathlib.Core.Path.{_≡_}
+use mathlib.Core.Bool.{cond}
 use mathlib.Core.List.{List, [], _∷_}
 use Prim.Native.Nat.{ℕ, _+_, _-_, _*_, _≤_, _<_}
 use lib.ListN.{length, set, take, drop}
 use lib.Dec.{ltb, eqb}
 use lib.Seq.{paste}
-use Rattle.ways.specs.Graph.{pick}
 use Rattle.join.specs.declared.extend.Walk.{Walk}
 use Rattle.join.specs.declared.extend.Found.{Found}
 
@@ -25,9 +25,9 @@ page f cells = record { count = f .count; more = f .more; cells = cells }
 -- one more record: counted if there is room, and written unless only counting (0); else noted; and nothing once one was noted
 abbrev pub emit : ℕ → ℕ → Page → List ℕ → Page
 emit writes room s r =
-    pick (eqb (s .more) 0)
-    (pick (ltb (s .count) room)
-    (record { count = s .count + 1; more = 0; cells = pick (eqb writes 0) (s .cells) (paste (s .cells) (s .count * size) r size) })
+    cond (eqb (s .more) 0)
+    (cond (ltb (s .count) room)
+    (record { count = s .count + 1; more = 0; cells = cond (eqb writes 0) (s .cells) (paste (s .cells) (s .count * size) r size) })
     (record { count = s .count; more = 1; cells = s .cells }))
     s
 

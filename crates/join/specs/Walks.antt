@@ -1,10 +1,10 @@
 -- What extending a chain and pairing it with its right halves ask, and what they do. Definitions only.
 use mathlib.Core.Path.{_≡_}
-use mathlib.Core.Bool.{Bool, true, false}
+use mathlib.Core.Bool.{Bool, true, false, cond}
 use mathlib.Core.List.{List, [], _∷_, map, flatMap}
 use Prim.Native.Nat.{ℕ, zero, suc, _+_, _-_, _*_, _≤_, _<_}
 use lib.ListN.{length, getD, set}
-use Rattle.ways.specs.Graph.{Graph, pick, keep}
+use Rattle.ways.specs.Graph.{Graph, keep}
 use Rattle.compact.specs.Compact.{persons, graphOf, Compact}
 use Rattle.join.specs.Pages.{size, Page, page, emits, part, recordWith}
 use Rattle.join.specs.declared.extend.Walk.{Walk}
@@ -13,7 +13,7 @@ use Rattle.join.specs.declared.extend.Found.{Found}
 -- whether nobody of the persons is marked
 unfoldable pub clear : List Bool → List ℕ → Bool
 clear marks [] = true
-clear marks (v ∷ w) = pick (getD marks v false) false (clear marks w)
+clear marks (v ∷ w) = cond (getD marks v false) false (clear marks w)
 
 -- cells that are persons, and a mark for each person
 pub record Persons (halves : List ℕ) (marks : List Bool) (from count : ℕ) : Type 0 where
@@ -79,11 +79,11 @@ pub record Arrived (halves index : List ℕ) (marks : List Bool) (out out′ cha
 -- the ways on from p, who stands last: so many hops past nobody marked, and then a right half that nobody marked stands in
 unfoldable pub following : Graph → (ℕ → List (List ℕ)) → ℕ → List Bool → ℕ → List (List ℕ)
 following g rights zero marks p = keep (clear marks) (rights p)
-following g rights (suc i) marks p = flatMap (λ v. pick (getD marks v false) [] (map (_∷_ v) (following g rights i (set marks v true) v))) (g p)
+following g rights (suc i) marks p = flatMap (λ v. cond (getD marks v false) [] (map (_∷_ v) (following g rights i (set marks v true) v))) (g p)
 
 -- the ways on whose next person is v
 abbrev pub taking : Graph → (ℕ → List (List ℕ)) → ℕ → List Bool → ℕ → List (List ℕ)
-taking g rights i marks v = pick (getD marks v false) [] (map (_∷_ v) (following g rights i (set marks v true) v))
+taking g rights i marks v = cond (getD marks v false) [] (map (_∷_ v) (following g rights i (set marks v true) v))
 
 -- extending
 pub record Going (rows targets halves index : List ℕ) (marks : List Bool) (out chain : List ℕ) (w : Walk) (at : ℕ) (found : Found) : Type 0 where

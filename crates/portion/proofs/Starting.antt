@@ -12,7 +12,7 @@ use Rattle.linkfile.specs.Format.{personCount}
 use Rattle.linkfile.specs.Verdict.{Fault, sound, fault, unless, firstOf}
 use Rattle.linkfile.specs.Checked.{fileFault}
 use Rattle.linkfile.proofs.Passed.{sound-rules, passed-fits}
-use Rattle.ways.specs.Graph.{Graph, pick}
+use Rattle.ways.specs.Graph.{Graph}
 use Rattle.ways.specs.Listing.{listing}
 use Rattle.ways.specs.Portions.{portion, endedAfter}
 use Rattle.ways.specs.Records.{chainOf, isRecordIn, written, roomOf}
@@ -75,12 +75,12 @@ start-decides g q started cells ne h = rw (bookmark-is g (q .from) (q .to) (q .h
 start-mark : (started : ℕ) (cells : List ℕ) → search.markOf started cells ≡ startsAfter (startSaid started cells)
 start-mark started cells = go (eqb started 0)
   where
-    go : (b : Bool) → pick b [] (chainOf cells) ≡ startsAfter (cond b fresh (after cells))
+    go : (b : Bool) → cond b [] (chainOf cells) ≡ startsAfter (cond b fresh (after cells))
     go true = refl
     go false = refl
 
 -- no chain follows just where the search says so
-more-ended : (ended : Bool) (more : ℕ) → more ≡ pick ended 0 1 → eqb more 0 ≡ ended
+more-ended : (ended : Bool) (more : ℕ) → more ≡ cond ended 0 1 → eqb more 0 ≡ ended
 more-ended true more e = rw e
 more-ended false more e = rw e
 

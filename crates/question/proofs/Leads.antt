@@ -7,7 +7,7 @@ use Prim.Native.Nat.{ℕ, zero, suc, _+_, _-_, _≤_, _<_}
 use lib.Dec.{ltb}
 use native.Mathlib.Omega.{arith}
 use borrow.Author.Tests.{ltb-true, lt-ltb, le-ltb}
-use Rattle.ways.specs.Graph.{_∈_, pick, keep}
+use Rattle.ways.specs.Graph.{_∈_, keep}
 use Rattle.ways.specs.Order.{Rising}
 use Rattle.ways.proofs.Members.{keep-from}
 use Rattle.linkfile.specs.Format.{personCount, row, target}
@@ -46,7 +46,7 @@ module _ (f : ℕ → ℕ) (test : ℕ → Bool) where
       cases first (inl e) on = omega arith
       cases first (inr i) on = on i
 
-      go : low < f from → (t : Bool) → y ∈ map f (pick t (from ∷ rest) rest) → (y ∈ map f rest → low < y) → low < y
+      go : low < f from → (t : Bool) → y ∈ map f (cond t (from ∷ rest) rest) → (y ∈ map f rest → low < y) → low < y
       go first true m on = cases first (List·Memᴰ·cases-cons m) on
       go first false m on = on m
 
@@ -60,7 +60,7 @@ module _ (f : ℕ → ℕ) (test : ℕ → Bool) where
       rest : List ℕ
       rest = keep test (numbersFrom (suc from) count)
 
-      go : (t : Bool) → ((y : ℕ) → y ∈ map f rest → f from < y) → Rising _<_ (map f rest) → Rising _<_ (map f (pick t (from ∷ rest) rest))
+      go : (t : Bool) → ((y : ℕ) → y ∈ map f rest → f from < y) → Rising _<_ (map f rest) → Rising _<_ (map f (cond t (from ∷ rest) rest))
       go true above rises = (above, rises)
       go false above rises = rises
 

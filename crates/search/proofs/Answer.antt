@@ -1,6 +1,6 @@
 -- The face: what it hands down is as the cycle asks, and what comes back is the portion of the listing.
 use mathlib.Core.Path.{_≡_, refl, sym, ap, subst, _∙_}
-use mathlib.Core.Bool.{Bool, true, false}
+use mathlib.Core.Bool.{Bool, true, false, cond}
 use mathlib.Core.List.{List, [], _∷_, _++_, map, append-assoc, append-nil, List·Memᴰ·head, List·Memᴰ·tail, Memᴰ·of-map}
 use mathlib.Core.Logic.{⊎-elim}
 use Prim.Native.Nat.{ℕ, zero, suc, _+_, _-_, _*_, _/_, _≤_, _<_, min}
@@ -11,7 +11,7 @@ use native.Mathlib.Omega.{arith}
 use native.Mathlib.Nat.{add-zero, zero-add, sub-zero, zero-min, min-zero, suc-min-suc}
 use native.Mathlib.Numerals.{add-one}
 use borrow.Author.Tests.{eq-eqb, ne-eqb, lt-ltb, le-ltb, le-leb, lt-leb}
-use Rattle.ways.specs.Graph.{Graph, _∈_, pick, among}
+use Rattle.ways.specs.Graph.{Graph, _∈_, among}
 use Rattle.ways.specs.Chain.{Last, hops}
 use Rattle.ways.specs.Listing.{ways, listing}
 use Rattle.ways.specs.Portions.{after}
@@ -204,7 +204,7 @@ pasted c front rest r lf h =
 -- with room for d more behind c that are written: the first d are written, and one more is noted if there is one
 emits-chains : (d c : ℕ) (front rest : List ℕ) (L : List (List ℕ)) → length front ≡ c * size → d * size ≤ length rest → ((x : List ℕ) → x ∈ L → Fits size x)
     → emits (c + d) (record { count = c; more = 0; out = front ++ rest }) (map (recordOf size) L)
-    ≡ record { count = c + min d (length L); more = pick (ltb d (length L)) 1 0; out = front ++ (cellsOf size (take d L) ++ drop (min d (length L) * size) rest) }
+    ≡ record { count = c + min d (length L); more = cond (ltb d (length L)) 1 0; out = front ++ (cellsOf size (take d L) ++ drop (min d (length L) * size) rest) }
 unfolding emits cellsOf
 emits-chains d c front rest [] lf lr f =
     page-eq (rw min-zero (sym (add-zero c))) (rw (le-ltb d 0 (omega arith))) (rw (take-nil, min-zero))
@@ -251,7 +251,7 @@ behind {rows} {targets} {from = from} {to} {hops} {started} {bookmark} k =
 onward-in : (tight : ℕ) (b : List ℕ) (ws : List (List ℕ)) {w : List ℕ} → w ∈ onward tight b ws → w ∈ ws
 onward-in tight b ws {w} m = ⊎-elim (λ e. subst (λ l. w ∈ l) (onward-loose tight b ws e) m) (λ n. after-from b ws (subst (λ l. w ∈ l) (onward-tight tight b ws n) m) .0) (same-or-not tight 0)
 
-ended-more : (d n : ℕ) → _≡_ {A = ℕ} (pick (ltb d n) 1 0) (pick (leb n d) 0 1)
+ended-more : (d n : ℕ) → _≡_ {A = ℕ} (cond (ltb d n) 1 0) (cond (leb n d) 0 1)
 ended-more d n = ⊎-elim (λ l. rw (lt-ltb d n l, lt-leb n d l)) (λ l. rw (le-ltb d n l, le-leb n d l)) (lt-or-le d n)
 
 pub list-answered : {rows targets fewest : List ℕ} {from to hops started : ℕ} {bookmark : List ℕ} {ms ms′ : List Bool} {cs′ out out′ bs bs′ ts ts′ : List ℕ} {found : Found} → Asked rows targets fewest from to hops started bookmark

@@ -1,6 +1,6 @@
 -- Writing records while there is room: what was written in parts was written at once, and nothing more once one was noted.
 use mathlib.Core.Path.{_≡_, refl, sym, ap, _∙_}
-use mathlib.Core.Bool.{Bool, true, false}
+use mathlib.Core.Bool.{Bool, true, false, cond}
 use mathlib.Core.List.{List, [], _∷_, _++_, map}
 use mathlib.Core.Logic.{⊎-elim}
 use Prim.Native.Nat.{ℕ, _+_, _-_, _*_, _≤_, _<_}
@@ -11,7 +11,6 @@ use native.Mathlib.Omega.{arith}
 use native.Mathlib.Nat.{zero-add, suc-add, add-zero}
 use native.Mathlib.Numerals.{add-one}
 use borrow.Author.Tests.{eq-eqb, ne-eqb, lt-ltb, le-ltb}
-use Rattle.ways.specs.Graph.{pick}
 use Rattle.search.specs.Face.{size}
 use Rattle.search.specs.Pages.{Page, emit, emits, recordWith, Room, Handed}
 use Rattle.search.specs.declared.walk.Found.{Found}
@@ -119,7 +118,7 @@ emits-count room s (x ∷ xs) =
     let one : s .count ≤ emit room s x .count = go (eqb (s .more) 0) (ltb (s .count) room) in
     omega (arith, rest, one)
   where
-    go : (a b : Bool) → s .count ≤ pick a (pick b (record { count = s .count + 1; more = 0; out = paste (s .out) (s .count * size) x size }) (record { count = s .count; more = 1; out = s .out })) s .count
+    go : (a b : Bool) → s .count ≤ cond a (cond b (record { count = s .count + 1; more = 0; out = paste (s .out) (s .count * size) x size }) (record { count = s .count; more = 1; out = s .out })) s .count
     go true true = omega arith
     go true false = omega arith
     go false b = omega arith

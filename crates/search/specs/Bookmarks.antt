@@ -1,11 +1,11 @@
 -- After a bookmark: what stands behind it, person by person. Definitions only.
 use mathlib.Core.Path.{_≡_}
+use mathlib.Core.Bool.{cond}
 use mathlib.Core.List.{List, [], _∷_, map}
 use Prim.Native.Nat.{ℕ, _+_, _≤_}
 use lib.ListN.{length, getD}
 use lib.Dec.{eqb}
 use lib.Seq.{slice}
-use Rattle.ways.specs.Graph.{pick}
 use Rattle.ways.specs.Portions.{after}
 use Rattle.search.specs.Face.{size}
 use Rattle.search.specs.Places.{Place}
@@ -16,7 +16,7 @@ restOf bookmark n = slice (n + 1) (getD bookmark 0 0 + 2) bookmark
 
 -- all, once the bookmark is left (0); else those that stand behind b, the bookmark's rest
 unfoldable pub onward : ℕ → List ℕ → List (List ℕ) → List (List ℕ)
-onward tight b ws = pick (eqb tight 0) ws (after b ws)
+onward tight b ws = cond (eqb tight 0) ws (after b ws)
 
 -- while the chain is the bookmark's beginning: the bookmark is a record, it goes on, and it ends at To
 pub record Beginning (bookmark : List ℕ) (w : Place) : Type 0 where

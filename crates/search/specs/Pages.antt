@@ -1,11 +1,11 @@
 -- What is written: records one behind the other, while there is room. Definitions only.
 use mathlib.Core.Path.{_≡_}
+use mathlib.Core.Bool.{cond}
 use mathlib.Core.List.{List, [], _∷_}
 use Prim.Native.Nat.{ℕ, _+_, _-_, _*_, _≤_, _<_}
 use lib.ListN.{length, set}
 use lib.Dec.{ltb, eqb}
 use lib.Seq.{paste}
-use Rattle.ways.specs.Graph.{pick}
 use Rattle.search.specs.Face.{size}
 use Rattle.search.specs.declared.walk.Found.{Found}
 
@@ -21,8 +21,8 @@ page f out = record { count = f .count; more = f .more; out = out }
 -- one more record: written if there is room, else noted; and nothing once one was noted
 abbrev pub emit : ℕ → Page → List ℕ → Page
 emit room s r =
-    pick (eqb (s .more) 0)
-    (pick (ltb (s .count) room)
+    cond (eqb (s .more) 0)
+    (cond (ltb (s .count) room)
     (record { count = s .count + 1; more = 0; out = paste (s .out) (s .count * size) r size })
     (record { count = s .count; more = 1; out = s .out }))
     s
