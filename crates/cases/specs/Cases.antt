@@ -7,9 +7,10 @@ use lib.ListN.{length, drop}
 use Rattle.linkfile.specs.Verdict.{sound, fault}
 use Rattle.ways.specs.Portions.{portion, endedAfter}
 use Rattle.ways.specs.Records.{written}
+use Rattle.ways.specs.Sizes.{recordSize}
 use Rattle.question.specs.declared.Question.{Question}
 use Rattle.question.specs.Asked.{askedFault}
-use Rattle.portion.specs.Listing.{recordSize, listingFor, Start, fresh, after, startsAfter, startFault}
+use Rattle.portion.specs.Listing.{listingFor, Start, fresh, after, startsAfter, startFault}
 use Rattle.join.specs.Lists.{halvesFor, halvesFault}
 use Rattle.cases.specs.SixPersons.{six, ask, Q}
 

@@ -1,4 +1,4 @@
--- How many chains there can be: at most 1,024 ways on from each person, so at most 1,024 ^ 8 of them.
+-- How many chains there can be: at most 1,024 ways on from each person, so at most 1,024 to the most hops of them.
 use mathlib.Core.Path.{_≡_, refl, ap, subst, _∙_}
 use mathlib.Core.Bool.{Bool, true, false, cond}
 use mathlib.Core.List.{List, [], _∷_, _++_, map, flatMap, List·Memᴰ·head, List·Memᴰ·tail}
@@ -13,6 +13,7 @@ use Rattle.linkfile.proofs.Passed.{sound-rules}
 use Rattle.ways.specs.Graph.{Graph, _∈_, among}
 use Rattle.ways.specs.Order.{Rising}
 use Rattle.ways.specs.Listing.{by, ways, listing}
+use Rattle.ways.specs.Sizes.{mostHops}
 use Rattle.question.specs.declared.Question.{Question}
 use Rattle.question.specs.Asked.{askedFault}
 use Rattle.question.specs.Admission.{next}
@@ -58,5 +59,5 @@ count-fits file q e =
     let people : personCount file ≤ 1024 = asked-few file q e in
     let few : (p : ℕ) → length (next file q p) ≤ 1024 = λ p. omega (arith, few-from (personCount file) 0 (next file q p) (next-rising passed q p) (λ y m. (omega arith, next-below passed q p m)) (omega arith)) in
     let all = listing-few (next file q) 1024 (omega arith) few (q .from) (q .to) (q .hops) in
-    let most : 1024 ^ q .hops ≤ 1024 ^ 8 = pow-le-pow-right (omega arith) (asked-proper file q e .most) in
+    let most : 1024 ^ q .hops ≤ 1024 ^ mostHops = pow-le-pow-right (omega arith) (asked-proper file q e .most) in
     lt-of-le-of-lt (le-trans all most) (lit< tt)

@@ -17,13 +17,14 @@ use Rattle.ways.specs.Records.{isRecordIn, roomOf}
 use Rattle.question.specs.declared.Question.{Question}
 use Rattle.ways.specs.Fewest.{fewest}
 use Rattle.question.specs.Admission.{next}
-use Rattle.question.specs.Asked.{mostHops, daysFit, restFault, questionFault, personFault, askedFault}
+use Rattle.question.specs.Asked.{daysFit, restFault, questionFault, personFault, askedFault}
 use Rattle.distance.specs.Answers as distance
 use Rattle.distance.specs.declared.Answer as distance-code
-use Rattle.portion.specs.Listing.{recordSize, listingFor, Start, fresh, after as following, startFault, portionFault, portionFor, endedFor, startsAfter}
+use Rattle.portion.specs.Listing.{listingFor, Start, fresh, after as following, startFault, portionFault, portionFor, endedFor, startsAfter}
 use Rattle.portion.specs.Answers as portion
 use Rattle.portion.specs.declared.Answer as portion-code
 use Rattle.ways.specs.Halves.{halvesFit}
+use Rattle.ways.specs.Sizes.{recordSize, mostHops}
 use Rattle.join.specs.Lists as lists
 use Rattle.join.specs.Answers.{Joins}
 use Rattle.outside.specs.Encoded.{Small, endedNumber}

@@ -15,6 +15,7 @@ use Rattle.ways.specs.Graph.{_∈_}
 use Rattle.ways.specs.Order.{Before, Rising}
 use Rattle.ways.specs.Portions.{after, portion, endedAfter, lastOr}
 use Rattle.ways.specs.Records.{Fits, recordOf, chainOf, cellsOf, written, roomOf, isRecordIn}
+use Rattle.ways.specs.Sizes.{recordSize}
 use Rattle.ways.proofs.Portions.{lastOr-cases, after-portion, ended-iff, real-chains}
 use Rattle.ways.proofs.After.{after-from, after-all}
 use Rattle.ways.proofs.Members.{take-in}
@@ -24,7 +25,7 @@ use Rattle.question.specs.declared.Question.{Question}
 use Rattle.question.specs.Asked.{askedFault}
 use Rattle.question.specs.Admission.{next}
 use Rattle.question.proofs.Leads.{next-rising}
-use Rattle.portion.specs.Listing.{recordSize, listingFor, Start, fresh, after as following, startsAfter, startFault, portionFault, portionFor, endedFor}
+use Rattle.portion.specs.Listing.{listingFor, Start, fresh, after as following, startsAfter, startFault, portionFault, portionFor, endedFor}
 use Rattle.portion.specs.Answers.{Answer, listed, refused, answerSaid, answerFor, cellsFor, Portioned}
 use Rattle.portion.specs.EndToEnd.{Call, countOf, saysEnded, wrote, lastRecord, startBehind, Run, done, call, allWrote, allRoom, EndsRight, LaidEndToEnd}
 use Rattle.portion.specs.declared.Answer as code

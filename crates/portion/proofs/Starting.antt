@@ -16,6 +16,7 @@ use Rattle.ways.specs.Graph.{Graph}
 use Rattle.ways.specs.Listing.{listing}
 use Rattle.ways.specs.Portions.{portion, endedAfter}
 use Rattle.ways.specs.Records.{chainOf, isRecordIn, written, roomOf}
+use Rattle.ways.specs.Sizes.{recordSize}
 use Rattle.compact.specs.Compact.{graphOf, Compact, persons}
 use Rattle.question.specs.declared.Question.{Question}
 use Rattle.question.specs.Asked.{askedFault, questionFault}
@@ -24,7 +25,7 @@ use Rattle.question.specs.Filled.{Filled}
 use Rattle.question.proofs.Refused.{Proper, question-proper}
 use Rattle.search.specs.Face as search
 use Rattle.search.specs.declared.Listed as search-found
-use Rattle.portion.specs.Listing.{recordSize, listingFor, Start, fresh, after, startSaid, startsAfter, startFault, portionFault, portionFor, endedFor}
+use Rattle.portion.specs.Listing.{listingFor, Start, fresh, after, startSaid, startsAfter, startFault, portionFault, portionFor, endedFor}
 use Rattle.portion.specs.Bookmark.{isBookmark, startFits}
 use Rattle.portion.specs.Inside.{Passes}
 use Rattle.portion.specs.Answers.{Answer, listed, refused, answerSaid, answerFor, cellsFor, Portioned}

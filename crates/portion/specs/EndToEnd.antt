@@ -6,9 +6,10 @@ use mathlib.Core.List.{List, [], _∷_, _++_}
 use Prim.Native.Nat.{ℕ, zero, suc, _+_, _*_, _-_, _≤_}
 use lib.ListN.{length, take, drop}
 use Rattle.ways.specs.Records.{roomOf, cellsOf}
+use Rattle.ways.specs.Sizes.{recordSize}
 use Rattle.question.specs.declared.Question.{Question}
 use Rattle.portion.specs.declared.Answer as code
-use Rattle.portion.specs.Listing.{recordSize, listingFor, Start, fresh, after}
+use Rattle.portion.specs.Listing.{listingFor, Start, fresh, after}
 use Rattle.portion.specs.Answers.{Answer, listed, refused, answerSaid, Portioned}
 
 -- one call: the output as it was lent and at exit, and the answer

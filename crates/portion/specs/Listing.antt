@@ -8,13 +8,10 @@ use Rattle.linkfile.specs.Verdict.{Fault, sound, unless, firstOf}
 use Rattle.ways.specs.Listing.{listing}
 use Rattle.ways.specs.Portions.{portion, endedAfter}
 use Rattle.ways.specs.Records.{chainOf, roomOf, isRecordIn}
+use Rattle.ways.specs.Sizes.{recordSize}
 use Rattle.question.specs.declared.Question.{Question}
 use Rattle.question.specs.Asked.{askedFault}
 use Rattle.question.specs.Admission.{next}
-
--- "A chain record has ten 32-bit cells"
-abbrev pub recordSize : ℕ
-recordSize = 10
 
 -- the listing of a file and a question: every chain over the admitted links
 abbrev pub listingFor : List ℕ → Question → List (List ℕ)

@@ -7,7 +7,7 @@ use lib.ListN.{length, getD}
 use lib.Dec.{eqb}
 use lib.Seq.{slice}
 use Rattle.ways.specs.Portions.{after}
-use Rattle.search.specs.Face.{size}
+use Rattle.ways.specs.Sizes.{recordSize}
 use Rattle.search.specs.Places.{Place}
 
 -- the bookmark's persons behind the first n, of its record
@@ -20,8 +20,8 @@ onward tight b ws = cond (eqb tight 0) ws (after b ws)
 
 -- while the chain is the bookmark's beginning: the bookmark is a record, it goes on, and it ends at To
 pub record Beginning (bookmark : List ℕ) (w : Place) : Type 0 where
-  pub cells : length bookmark ≡ size
-  pub fits : getD bookmark 0 0 + 2 ≤ size
+  pub cells : length bookmark ≡ recordSize
+  pub fits : getD bookmark 0 0 + 2 ≤ recordSize
   pub on : w .len ≤ getD bookmark 0 0
   pub ends : getD bookmark (getD bookmark 0 0 + 1) 0 ≡ w .to
 
