@@ -7,9 +7,10 @@ use lib.ListN.{length, drop}
 use Rattle.linkfile.specs.Verdict.{sound, fault}
 use Rattle.ways.specs.Portions.{portion, endedAfter}
 use Rattle.ways.specs.Records.{written}
+use Rattle.ways.specs.Sizes.{recordSize}
 use Rattle.question.specs.declared.Question.{Question}
 use Rattle.question.specs.Asked.{askedFault}
-use Rattle.portion.specs.Listing.{recordSize, listingFor, Start, fresh, after, startsAfter, startFault}
+use Rattle.portion.specs.Listing.{listingFor, Start, fresh, bookmarked, startsAfter, startFault}
 use Rattle.join.specs.Lists.{halvesFor, halvesFault}
 use Rattle.cases.specs.SixPersons.{six, ask, Q}
 
@@ -102,7 +103,7 @@ table =
     -- P9 room 2: two chains, not ended.
     ∷ portionIs Q 2 fresh 2 false (first ∷ second ∷ []) (firstRecord ++ secondRecord)
     -- P10 room 2, after (0 2 1 3 5): (0 2 3 5), ended.
-    ∷ portionIs Q 2 (after secondRecord) 1 true (third ∷ []) thirdRecord
+    ∷ portionIs Q 2 (bookmarked secondRecord) 1 true (third ∷ []) thirdRecord
     -- P11 room 3: three, ended.
     ∷ portionIs Q 3 fresh 3 true (first ∷ second ∷ third ∷ []) (firstRecord ++ secondRecord ++ thirdRecord)
     -- P12 half chains: (5), (3 5), (4 5), (1 3 5), (2 3 5). 50 working cells do; 49 give 18.

@@ -7,7 +7,7 @@ use Rattle.linkfile.specs.Verdict.{sound, firstOf}
 use Rattle.linkfile.specs.Checked.{fileFault}
 use Rattle.question.specs.declared.Question.{Question}
 use Rattle.question.specs.Asked.{personFault}
-use Rattle.portion.specs.Listing.{listingFor, after, portionFault}
+use Rattle.portion.specs.Listing.{listingFor, bookmarked, portionFault}
 use Rattle.join.specs.Lists.{joinFault}
 
 -- each operation goes its whole way, past every refusal, so whatever its inner functions ask of their callers is asked of this too
@@ -15,6 +15,6 @@ pub record Passing (file : List ℕ) (q : Question) (person : ℕ) (bookmark wor
   pub check : fileFault file ≡ sound
   pub fewest : firstOf (fileFault file) (personFault (personCount file) q person) ≡ sound
   -- a held listing that was started and has this record asks the same
-  pub portion : portionFault file q (after bookmark) out ≡ sound
+  pub portion : portionFault file q (bookmarked bookmark) out ≡ sound
   pub join : joinFault file q working out ≡ sound
   pub chains : listingFor file q ≡ [] → ⊥

@@ -1,6 +1,6 @@
--- How many chains there can be: at most 1,024 ways on from each person, so at most 1,024 ^ 8 of them.
+-- How many chains there can be: at most 1,024 ways on from each person, so at most 1,024 to the most hops of them.
 use mathlib.Core.Path.{_≡_, refl, ap, subst, _∙_}
-use mathlib.Core.Bool.{Bool, true, false}
+use mathlib.Core.Bool.{Bool, true, false, cond}
 use mathlib.Core.List.{List, [], _∷_, _++_, map, flatMap, List·Memᴰ·head, List·Memᴰ·tail}
 use Prim.Native.Nat.{ℕ, zero, suc, _+_, _*_, _^_, _≤_, _<_}
 use native.Mathlib.Omega.{arith}
@@ -10,9 +10,10 @@ use lib.ListN.{length, length-append, length-map}
 use Rattle.linkfile.specs.Verdict.{sound}
 use Rattle.linkfile.specs.Format.{personCount}
 use Rattle.linkfile.proofs.Passed.{sound-rules}
-use Rattle.ways.specs.Graph.{Graph, _∈_, pick, among}
+use Rattle.ways.specs.Graph.{Graph, _∈_, among}
 use Rattle.ways.specs.Order.{Rising}
 use Rattle.ways.specs.Listing.{by, ways, listing}
+use Rattle.ways.specs.Sizes.{mostHops}
 use Rattle.question.specs.declared.Question.{Question}
 use Rattle.question.specs.Asked.{askedFault}
 use Rattle.question.specs.Admission.{next}
@@ -42,7 +43,7 @@ module _ (g : Graph) (n : ℕ) (some : 0 < n) (few : (p : ℕ) → length (g p) 
       let each : (v : ℕ) → length (by t seen (ways g t k) v) ≤ n ^ k = λ v. go v (eqb v t) (among v seen) (ways-few t k (v ∷ seen) v) in
       omega (arith, flat-few (by t seen (ways g t k)) (n ^ k) (g p) each, mul-le-mul-right (n ^ k) (few p), pow-suc n k, mul-comm n (n ^ k))
     where
-      go : (v : ℕ) (a b : Bool) → length (ways g t k (v ∷ seen) v) ≤ n ^ k → length (pick a ((v ∷ []) ∷ []) (pick b [] (map (_∷_ v) (ways g t k (v ∷ seen) v)))) ≤ n ^ k
+      go : (v : ℕ) (a b : Bool) → length (ways g t k (v ∷ seen) v) ≤ n ^ k → length (cond a ((v ∷ []) ∷ []) (cond b [] (map (_∷_ v) (ways g t k (v ∷ seen) v)))) ≤ n ^ k
       go v true b h = one-le-pow k n some
       go v false true h = omega arith
       go v false false h = omega (arith, length-map (ways g t k (v ∷ seen) v) (_∷_ v))
@@ -58,5 +59,5 @@ count-fits file q e =
     let people : personCount file ≤ 1024 = asked-few file q e in
     let few : (p : ℕ) → length (next file q p) ≤ 1024 = λ p. omega (arith, few-from (personCount file) 0 (next file q p) (next-rising passed q p) (λ y m. (omega arith, next-below passed q p m)) (omega arith)) in
     let all = listing-few (next file q) 1024 (omega arith) few (q .from) (q .to) (q .hops) in
-    let most : 1024 ^ q .hops ≤ 1024 ^ 8 = pow-le-pow-right (omega arith) (asked-proper file q e .most) in
+    let most : 1024 ^ q .hops ≤ 1024 ^ mostHops = pow-le-pow-right (omega arith) (asked-proper file q e .most) in
     lt-of-le-of-lt (le-trans all most) (lit< tt)

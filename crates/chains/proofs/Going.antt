@@ -16,6 +16,7 @@ use Rattle.ways.specs.Order.{Before, before, Rising}
 use Rattle.ways.specs.Listing.{ways, listing}
 use Rattle.ways.specs.Portions.{after, portion, endedAfter, lastOr}
 use Rattle.ways.specs.Records.{Fits, recordOf, chainOf, cellsOf, written, roomOf}
+use Rattle.ways.specs.Sizes.{recordSize}
 use Rattle.ways.proofs.Portions.{lastOr-cases, after-portion}
 use Rattle.ways.proofs.After.{after-from}
 use Rattle.ways.proofs.Members.{take-in}
@@ -25,7 +26,7 @@ use Rattle.question.specs.declared.Question.{Question}
 use Rattle.question.specs.Asked.{askedFault}
 use Rattle.question.specs.Admission.{next}
 use Rattle.question.proofs.Leads.{next-rising}
-use Rattle.portion.specs.Listing.{recordSize, listingFor, Start, fresh, after as behind, startSaid, startsAfter, startFault, portionFault, portionFor, endedFor}
+use Rattle.portion.specs.Listing.{listingFor, Start, fresh, bookmarked as behind, startSaid, startsAfter, startFault, portionFault, portionFor, endedFor}
 use Rattle.portion.specs.Answers.{Answer, listed, refused, answerSaid, answerFor, cellsFor, Portioned}
 use Rattle.portion.specs.EndToEnd.{lastRecord}
 use Rattle.portion.specs.declared.Answer as code

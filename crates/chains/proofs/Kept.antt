@@ -6,7 +6,7 @@ use native.Mathlib.Omega.{arith}
 use native.Mathlib.Numerals.{add-one}
 use lib.ListN.{length, getD, take, drop, set, length-set, length-drop}
 use lib.Seq.{take-all, take-suc, take-suc-set, getD-drop}
-use Rattle.portion.specs.Listing.{recordSize}
+use Rattle.ways.specs.Sizes.{recordSize}
 
 pub record Keeping (cells : List ℕ) (first : ℕ) (bookmark : List ℕ) (i : ℕ) : Type 0 where
   pub within : i ≤ recordSize

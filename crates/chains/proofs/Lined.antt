@@ -8,8 +8,9 @@ use lib.ListN.{length, getD, take, drop, replicate, length-append}
 use lib.Seq.{take-append-seam, drop-at, getD-drop}
 use Rattle.ways.specs.Graph.{_∈_}
 use Rattle.ways.specs.Records.{Fits, recordOf, chainOf, cellsOf}
+use Rattle.ways.specs.Sizes.{recordSize, mostHops}
 use Rattle.ways.proofs.Records.{length-recordOf}
-use Rattle.text.specs.Lines.{recordSize, chainAt, chainsAt, RecordAt, Records}
+use Rattle.text.specs.Lines.{chainAt, chainsAt, RecordAt, Records}
 
 -- the record at the head of cells
 chain-head : (c rest : List ℕ) → Fits recordSize c → chainOf (recordOf recordSize c ++ rest) ≡ c
@@ -19,7 +20,7 @@ chain-head (p ∷ c) rest f =
     let zeros = replicate {A = ℕ} (recordSize - suc (suc (length c))) 0 in
     ap (_∷_ p) (ap (take (length c)) (append-assoc c zeros rest) ∙ take-append-seam c (zeros ++ rest))
 
-hops-head : (c rest : List ℕ) → Fits recordSize c → getD (recordOf recordSize c ++ rest) 0 0 ≤ 8
+hops-head : (c rest : List ℕ) → Fits recordSize c → getD (recordOf recordSize c ++ rest) 0 0 ≤ mostHops
 unfolding recordOf
 hops-head [] rest f = absurd (omega (arith, f .some))
 hops-head (p ∷ c) rest f = omega (arith, f .room)

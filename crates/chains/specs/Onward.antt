@@ -6,9 +6,10 @@ use Prim.Native.Nat.{ℕ, _+_, _≤_, _<_}
 use lib.ListN.{length}
 use Rattle.linkfile.specs.Verdict.{sound}
 use Rattle.ways.specs.Portions.{after}
+use Rattle.ways.specs.Sizes.{recordSize}
 use Rattle.question.specs.declared.Question.{Question}
 use Rattle.question.specs.Asked.{askedFault}
-use Rattle.portion.specs.Listing.{recordSize, listingFor, Start, after as behind, startsAfter, startFault}
+use Rattle.portion.specs.Listing.{listingFor, Start, bookmarked, startsAfter, startFault}
 use Rattle.portion.specs.Answers.{Answer, listed, refused}
 use Rattle.text.specs.Decimal.{worth, Digits}
 use Rattle.text.specs.Lines.{chainLines, chainsAt, endLine, refusalLine, Records}
@@ -38,6 +39,6 @@ pub record WentOn (file : List ℕ) (q : Question) (start : Start) (before : ℕ
   pub ends : {count : ℕ} → answer ≡ listed count true
       → Digits counted′ × (toCome file q start before ≡ chainLines (chainsAt cells′ 0 count) ++ endLine (worth counted′))
   pub goes : {count : ℕ} → answer ≡ listed count false
-      → OnTheWay file q (behind bookmark′) bookmark′ counted′ cells′
-      × (toCome file q start before ≡ chainLines (chainsAt cells′ 0 count) ++ toCome file q (behind bookmark′) (worth counted′))
-      × (length (rest file q (behind bookmark′)) < length (rest file q start))
+      → OnTheWay file q (bookmarked bookmark′) bookmark′ counted′ cells′
+      × (toCome file q start before ≡ chainLines (chainsAt cells′ 0 count) ++ toCome file q (bookmarked bookmark′) (worth counted′))
+      × (length (rest file q (bookmarked bookmark′)) < length (rest file q start))

@@ -9,14 +9,15 @@ mod reading;
 use libc::STDIN_FILENO;
 use libc::STDOUT_FILENO;
 use portion::Answer;
-use portion::RECORD;
 use question::Question;
 use reading::Input;
 use reading::QUESTION;
 use text::DIGITS;
+use ways::RECORD;
 ghost use mathlib.Core.Path.{_≡_};
-ghost use Prim.Native.Nat.{_≤_};
+ghost use Prim.Native.Nat.{_*_, _≤_};
 ghost use lib.ListN.{length};
+ghost use Rattle.ways.specs.Sizes.{recordSize};
 ghost use Rattle.text.specs.Decimal.{Digits};
 ghost use Rattle.text.specs.Lines.{Records};
 ghost use Rattle.text.specs.Printed.{longestLine};
@@ -24,7 +25,7 @@ ghost use Rattle.text.specs.Printed.{longestLine};
 // 28 bytes of question and at most 53,348 bytes of file; one byte more tells that a file is too long.
 const LIMIT: usize = 53_377;
 // The cells of a portion: 4,096 chains.
-const CELLS: usize = 40_960;
+const CELLS: usize = 4_096 * RECORD;
 
 // Zeros for the input, and for the records of a portion. The `ensures` gives the length, which lending them as a slice needs.
 fn input_space() -> [u8; LIMIT]
@@ -34,7 +35,7 @@ fn input_space() -> [u8; LIMIT]
 }
 
 fn record_space() -> [u32; CELLS]
-    ensures { λ r. ⌜ 40960 ≡ length r ⌝ }
+    ensures { λ r. ⌜ 4096 * recordSize ≡ length r ⌝ }
 {
     [0; CELLS]
 }
@@ -80,7 +81,7 @@ fn print_chains(cells: &[u32], count: usize, out: &mut [u8]) -> bool
 
 // Portion by portion, each from the last chain of the one before.
 fn list(file: &[u8], question: Question, cells: &mut [u32], out: &mut [u8])
-    requires { ⌜ (10 ≤ length (now cells)) × (longestLine ≤ length (now out)) ⌝ }
+    requires { ⌜ (recordSize ≤ length (now cells)) × (longestLine ≤ length (now out)) ⌝ }
 {
     let mut bookmark = [0u32; RECORD];
     let mut counted = [0u8; DIGITS];

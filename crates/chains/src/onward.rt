@@ -1,13 +1,14 @@
 // Going on by a portion: its chains in the cells, the count, and the bookmark for the next one.
 use portion::Answer;
-use portion::RECORD;
 use question::Question;
 use text::DIGITS;
 use text::counts::count_on;
+use ways::RECORD;
 ghost use mathlib.Core.Path.{_≡_};
 ghost use Prim.Native.Nat.{_*_, _≤_};
 ghost use lib.ListN.{length};
-ghost use Rattle.portion.specs.Listing.{recordSize, startSaid};
+ghost use Rattle.ways.specs.Sizes.{recordSize};
+ghost use Rattle.portion.specs.Listing.{startSaid};
 ghost use Rattle.portion.specs.Answers.{answerSaid};
 ghost use Rattle.portion.specs.EndToEnd.{lastRecord};
 ghost use Rattle.text.specs.Decimal.{worth};

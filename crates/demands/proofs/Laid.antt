@@ -8,9 +8,10 @@ use lib.ListN.{length, drop, length-drop}
 use lib.Seq.{take-all}
 use Rattle.linkfile.specs.Verdict.{sound}
 use Rattle.ways.specs.Records.{roomOf, cellsOf}
+use Rattle.ways.specs.Sizes.{recordSize}
 use Rattle.question.specs.declared.Question.{Question}
 use Rattle.question.specs.Asked.{askedFault}
-use Rattle.portion.specs.Listing.{recordSize, listingFor}
+use Rattle.portion.specs.Listing.{listingFor}
 use Rattle.portion.specs.EndToEnd.{Call, allRoom, EndsRight, LaidEndToEnd}
 use Rattle.portion.proofs.LaidEnd.{laid-end-to-end, laid-behind}
 use Rattle.held.proofs.Onward.{held-end-to-end, held-ended}

@@ -16,11 +16,12 @@ use Rattle.ways.proofs.Ordered.{ordered, once-each, determined}
 use Rattle.ways.proofs.Portions.{real-chains}
 use Rattle.ways.proofs.After.{after-all}
 use Rattle.ways.proofs.ByHops.{byHops-iff, byHops-ordered, byHops-once}
+use Rattle.ways.specs.Sizes.{recordSize}
 use Rattle.question.specs.declared.Question.{Question}
 use Rattle.question.specs.Asked.{askedFault}
 use Rattle.question.specs.Admission.{next}
 use Rattle.question.proofs.Leads.{next-led, led-next, next-rising}
-use Rattle.portion.specs.Listing.{recordSize, listingFor, fresh}
+use Rattle.portion.specs.Listing.{listingFor, fresh}
 use Rattle.portion.specs.Answers.{Portioned}
 use Rattle.portion.specs.declared.Answer.{Answer}
 use Rattle.portion.proofs.Starting.{asked-file, asked-proper}

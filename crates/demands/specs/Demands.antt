@@ -17,11 +17,12 @@ use Rattle.ways.specs.Chain.{Distinct}
 use Rattle.ways.specs.Order.{Before, Rising}
 use Rattle.ways.specs.ByHops.{Sooner}
 use Rattle.ways.specs.Records.{cellsOf, written}
+use Rattle.ways.specs.Sizes.{recordSize}
 use Rattle.question.specs.declared.Question.{Question}
 use Rattle.question.specs.Asked.{personFault, askedFault}
 use Rattle.distance.specs.Answers as distance
 use Rattle.distance.specs.declared.Answer as hops
-use Rattle.portion.specs.Listing.{recordSize, listingFor, Start, fresh, after, startFault, portionFault}
+use Rattle.portion.specs.Listing.{listingFor, Start, fresh, bookmarked, startFault, portionFault}
 use Rattle.portion.specs.Answers.{listed, refused, answerSaid, Portioned}
 use Rattle.portion.specs.EndToEnd.{Call, Run, saysEnded, allWrote, LaidEndToEnd, Resumed}
 use Rattle.portion.specs.declared.Answer.{Answer}
@@ -98,7 +99,7 @@ pub record EndToEnd (file : List ℕ) (q : Question) (calls : List Call) : Type 
 pub record DemandThree (file : List ℕ) (q : Question) : Type 0 where
   pub portions : {calls : List Call} → Run file q fresh calls → EndToEnd file q calls
   -- also after a bookmark that somebody kept: the rest of the listing, from the chain behind it on
-  pub resumed : (bookmark : List ℕ) {calls : List Call} → startFault (listingFor file q) (after bookmark) ≡ sound → Run file q (after bookmark) calls → Resumed file q bookmark calls
+  pub resumed : (bookmark : List ℕ) {calls : List Call} → startFault (listingFor file q) (bookmarked bookmark) ≡ sound → Run file q (bookmarked bookmark) calls → Resumed file q bookmark calls
   pub held : {held held′ : Held} {calls : List Call} → held .question ≡ q → held .started ≡ 0 → HeldRun file held calls held′ → EndToEnd file q calls
   pub heldEnded : {held held′ held″ : Held} {out out′ : List ℕ} {answer : Answer} {count : ℕ} {calls : List Call} → MovedOn file held held′ out out′ answer
       → answerSaid answer ≡ listed count true → HeldRun file held′ calls held″ → (held″ ≡ held′) × Quiet calls

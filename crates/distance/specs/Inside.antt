@@ -6,8 +6,9 @@ use lib.ListN.{length}
 use Rattle.linkfile.specs.Format.{personCount}
 use Rattle.linkfile.specs.Verdict.{sound}
 use Rattle.linkfile.specs.Checked.{fileFault}
+use Rattle.ways.specs.Sizes.{mostHops}
 use Rattle.compact.specs.Compact.{persons, Compact}
-use Rattle.question.specs.Asked.{mostHops, personFault}
+use Rattle.question.specs.Asked.{personFault}
 use Rattle.question.specs.declared.Question.{Question}
 
 -- a file, a question and a person that have passed

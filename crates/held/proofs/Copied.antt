@@ -6,7 +6,7 @@ use native.Mathlib.Numerals.{add-one}
 use native.Mathlib.Omega.{arith}
 use lib.ListN.{length, getD, set, take, drop, length-set, length-drop}
 use lib.Seq.{take-suc, take-suc-set, take-all, getD-drop}
-use Rattle.portion.specs.Listing.{recordSize}
+use Rattle.ways.specs.Sizes.{recordSize}
 
 pub record Copied (cells : List ℕ) (at : ℕ) (kept : List ℕ) (i : ℕ) : Type 0 where
   pub bound : i ≤ recordSize

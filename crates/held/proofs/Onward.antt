@@ -13,6 +13,7 @@ use Rattle.linkfile.proofs.Passed.{sound-rules}
 use Rattle.ways.specs.Graph.{_∈_}
 use Rattle.ways.specs.Portions.{after, lastOr}
 use Rattle.ways.specs.Records.{recordOf, roomOf, written, cellsOf}
+use Rattle.ways.specs.Sizes.{recordSize}
 use Rattle.ways.proofs.Ordered.{ordered}
 use Rattle.ways.proofs.Portions.{lastOr-cases, ended-iff}
 use Rattle.ways.proofs.Records.{chainOf-recordOf, true-isRecordIn}
@@ -20,7 +21,7 @@ use Rattle.question.specs.declared.Question.{Question}
 use Rattle.question.specs.Admission.{next}
 use Rattle.question.specs.Asked.{askedFault}
 use Rattle.question.proofs.Leads.{next-rising}
-use Rattle.portion.specs.Listing.{recordSize, Start, fresh, startsAfter, startFault, listingFor, portionFault, portionFor}
+use Rattle.portion.specs.Listing.{Start, fresh, startsAfter, startFault, listingFor, portionFault, portionFor}
 use Rattle.portion.specs.Answers.{Answer, listed, refused, answerSaid}
 use Rattle.portion.specs.EndToEnd as portions
 use Rattle.portion.specs.EndToEnd.{Call, countOf, startBehind, LaidEndToEnd}

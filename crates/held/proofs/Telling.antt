@@ -10,13 +10,14 @@ use Rattle.linkfile.specs.Verdict.{Fault, sound, fault, unless, firstOf}
 use Rattle.ways.specs.Graph.{_∈_}
 use Rattle.ways.specs.Portions.{after, lastOr}
 use Rattle.ways.specs.Records.{recordOf, Fits, roomOf, written}
+use Rattle.ways.specs.Sizes.{recordSize}
 use Rattle.ways.proofs.Members.{take-in}
 use Rattle.ways.proofs.After.{after-from}
 use Rattle.ways.proofs.Records.{listing-fits, length-written, room-within}
 use Rattle.question.specs.declared.Question.{Question}
 use Rattle.question.specs.Admission.{next}
 use Rattle.question.specs.Asked.{askedFault}
-use Rattle.portion.specs.Listing.{recordSize, Start, startsAfter, startFault, listingFor, portionFault, portionFor, endedFor}
+use Rattle.portion.specs.Listing.{Start, startsAfter, startFault, listingFor, portionFault, portionFor, endedFor}
 use Rattle.portion.specs.Answers.{listed, refused, answerSaid, answerFor, Portioned}
 use Rattle.portion.specs.declared.Answer as code
 use Rattle.portion.specs.EndToEnd.{lastRecord}

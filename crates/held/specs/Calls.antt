@@ -5,7 +5,7 @@ use mathlib.Core.Bool.{true}
 use mathlib.Core.List.{List, [], _∷_}
 use Prim.Native.Nat.{ℕ, _≤_}
 use lib.ListN.{length}
-use Rattle.portion.specs.Listing.{recordSize}
+use Rattle.ways.specs.Sizes.{recordSize}
 use Rattle.portion.specs.Answers.{listed, refused, answerSaid}
 use Rattle.portion.specs.EndToEnd.{Call}
 use Rattle.portion.specs.declared.Answer as code

@@ -6,7 +6,8 @@ use Prim.Native.Nat.{ℕ}
 use Rattle.linkfile.specs.Verdict.{Fault, sound, fault}
 use Rattle.ways.specs.Portions.{lastOr}
 use Rattle.ways.specs.Records.{recordOf}
-use Rattle.portion.specs.Listing.{recordSize, Start, startSaid, portionFault, portionFor}
+use Rattle.ways.specs.Sizes.{recordSize}
+use Rattle.portion.specs.Listing.{Start, startSaid, portionFault, portionFor}
 use Rattle.portion.specs.Answers.{Portioned}
 use Rattle.portion.specs.declared.Answer as code
 use Rattle.held.specs.declared.Held.{Held}

@@ -4,13 +4,13 @@
 // `advanced` is the face for every other caller, from values to values through `advance`. All three have one promise. A call that
 // hands over no chain, and a refusal, change nothing. Calls one after another hand over the listing end to end: proofs/Onward.
 use portion::Answer;
-use portion::RECORD;
 use question::Question;
+use ways::RECORD;
 ghost use mathlib.Core.Path.{_≡_};
 ghost use Prim.Native.Nat.{_+_, _≤_};
 ghost use lib.ListN.{length, take, drop};
+ghost use Rattle.ways.specs.Sizes.{recordSize};
 ghost use Rattle.held.specs.Holding.{MovedOn};
-ghost use Rattle.portion.specs.Listing.{recordSize};
 
 // Any number in `started` but 0 says that the listing was started; until then the record is not looked at.
 pub struct Held {

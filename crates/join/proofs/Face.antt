@@ -1,6 +1,6 @@
 -- The join over the compact graph: what it hands down is as its functions ask, and what comes back are the half chains and the chains by hops.
 use mathlib.Core.Path.{_≡_, refl, sym, ap, subst, _∙_}
-use mathlib.Core.Bool.{Bool, true, false}
+use mathlib.Core.Bool.{Bool, true, false, cond}
 use mathlib.Core.List.{List, [], _∷_, _++_, map, map-append}
 use mathlib.Core.Logic.{_≢_, ⊎-elim}
 use Prim.Native.Nat.{ℕ, zero, suc, _+_, _*_, _/_, _≤_, _<_}
@@ -10,23 +10,23 @@ use lib.Dec.{eqb, ltb, leb}
 use native.Mathlib.Omega.{arith}
 use borrow.Author.Tests.{eq-eqb, lt-ltb, le-ltb, le-leb, lt-leb}
 use Rattle.linkfile.specs.Verdict.{Fault, sound, fault}
-use Rattle.ways.specs.Graph.{Graph, _∈_, pick, keep}
+use Rattle.ways.specs.Graph.{Graph, _∈_, keep}
 use Rattle.ways.specs.Listing.{ways, listing}
 use Rattle.ways.specs.Records.{recordOf, Fits, written}
 use Rattle.ways.specs.ByHops.{shorterFirst, chainsOf, byHops}
 use Rattle.ways.specs.Halves.{halfChains, halves}
 use Rattle.ways.specs.Join.{leftHops, rightHops, joined}
+use Rattle.ways.specs.Sizes.{recordSize}
 use Rattle.ways.proofs.Records.{listing-fits}
 use Rattle.ways.proofs.ByHops.{byHops-iff}
 use Rattle.ways.proofs.Join.{join, join-all, right-within}
 use Rattle.compact.specs.Compact.{persons, graphOf, Compact}
-use Rattle.portion.specs.Listing.{recordSize}
 use Rattle.join.specs.Lists.{halvesFault}
 use Rattle.portion.specs.Answers.{answerSaid, answerFor, cellsFor}
 use Rattle.join.specs.Answers.{Answered, Passed, halvesIn, JoinsIn}
-use Rattle.join.specs.Pages.{size, Page, page, emits, recordWith}
+use Rattle.join.specs.Pages.{Page, page, emits, recordWith}
 use Rattle.join.specs.Walks.{rightsOf, Indexed}
-use Rattle.join.specs.Shelf.{Ended, blank, nothing, halvesBefore, Shelve, Shelved, fromOne, waysOf, Gather, Gathered}
+use Rattle.join.specs.Shelf.{Ended, blank, nothing, halvesBefore, placesAtMost, Shelve, Shelved, fromOne, waysOf, Gather, Gathered}
 use Rattle.portion.specs.declared.Answer as code
 use Rattle.join.specs.declared.extend.Found.{Found}
 use Rattle.join.proofs.Cases.{lt-or-le}
@@ -66,7 +66,7 @@ module _ {rows targets : List ℕ} {from to hops : ℕ} (k : Passed rows targets
 
     -- ---- the half chains are counted, then written
 
-    pub graph-shelve : {marks : List Bool} {index working : List ℕ} {writes : ℕ} → marks ≡ marked-from from → length index ≡ 5121 → Shelve rows targets (set blank 1 to) ending marks index working writes (places hops)
+    pub graph-shelve : {marks : List Bool} {index working : List ℕ} {writes : ℕ} → marks ≡ marked-from from → length index ≡ suc placesAtMost → Shelve rows targets (set blank 1 to) ending marks index working writes (places hops)
     graph-shelve m i = record {
       graph = k .graph;
       indexed = indexed-ending e (k .target);
@@ -76,64 +76,64 @@ module _ {rows targets : List ℕ} {from to hops : ℕ} (k : Passed rows targets
     }
 
     shelved-halves : {marks : List Bool} → marks ≡ marked-from from
-        → map (recordWith blank 0) (halvesBefore (graphOf rows targets) (rightsOf (set blank 1 to) ending 0) marks (places hops)) ≡ map (recordOf size) (halvesIn rows targets from to hops)
+        → map (recordWith blank 0) (halvesBefore (graphOf rows targets) (rightsOf (set blank 1 to) ending 0) marks (places hops)) ≡ map (recordOf recordSize) (halvesIn rows targets from to hops)
     shelved-halves m =
         let same = all-halves (k .graph) from to (k .source) (k .target) (k .differ) (rightsOf (set blank 1 to) ending 0) (rights-ending e (k .target)) (marked-from from) from-marked hops in
         rw (m, same) (records-blank (halvesIn rows targets from to hops) fits)
       where
-        fits : (h : List ℕ) → h ∈ halvesIn rows targets from to hops → Fits size h
+        fits : (h : List ℕ) → h ∈ halvesIn rows targets from to hops → Fits recordSize h
         fits = all-fit (k .graph) from to (k .source) (k .target) (k .differ) (rightsOf (set blank 1 to) ending 0) (rights-ending e (k .target)) (marked-from from) from-marked hops (k .few)
 
-    halves-fit : (h : List ℕ) → h ∈ halvesIn rows targets from to hops → Fits size h
+    halves-fit : (h : List ℕ) → h ∈ halvesIn rows targets from to hops → Fits recordSize h
     halves-fit = all-fit (k .graph) from to (k .source) (k .target) (k .differ) (rightsOf (set blank 1 to) ending 0) (rights-ending e (k .target)) (marked-from from) from-marked hops (k .few)
 
     module _ {marks : List Bool} {index working working₁ : List ℕ} {found : Found} (c : Shelved rows targets (set blank 1 to) ending (marked-from from) marks index working working₁ 0 (places hops) found) where
       -- only counted: no cell has changed
       pub counted-cells : working₁ ≡ working
-      counted-cells = ap (λ (q : Page). q .cells) (c .right) ∙ emits-cells (length working / size) (page nothing working) _
+      counted-cells = ap (λ (q : Page). q .cells) (c .right) ∙ emits-cells (length working / recordSize) (page nothing working) _
 
-      counted-more : found .more ≡ pick (ltb (length working / size) (length (halvesIn rows targets from to hops))) 1 0
+      counted-more : found .more ≡ cond (ltb (length working / recordSize) (length (halvesIn rows targets from to hops))) 1 0
       counted-more =
           ap (λ (q : Page). q .more) (c .right)
-          ∙ ap (λ (l : List (List ℕ)). emits 0 (length working / size) (page nothing working) l .more) (shelved-halves refl)
-          ∙ emits-noted (length working / size) (map (recordOf size) (halvesIn rows targets from to hops)) 0 0 working working
+          ∙ ap (λ (l : List (List ℕ)). emits 0 (length working / recordSize) (page nothing working) l .more) (shelved-halves refl)
+          ∙ emits-noted (length working / recordSize) (map (recordOf recordSize) (halvesIn rows targets from to hops)) 0 0 working working
           ∙ ap (λ (q : Page). q .more) (emits-written working (halvesIn rows targets from to hops) halves-fit)
 
       -- too many for the working cells
       pub graph-refused : {out : List ℕ} → (found .more ≡ 0 → ⊥) → JoinsIn rows targets from to hops working working₁ out out (code.the-variants.Refused 18 0)
-      graph-refused {out} n = ⊎-elim (λ l. refuse (lt-leb (length (halvesIn rows targets from to hops)) (length working / size) l)) (λ l. absurd (n (counted-more ∙ rw (le-ltb (length working / size) (length (halvesIn rows targets from to hops)) l)))) (lt-or-le (length working / size) (length (halvesIn rows targets from to hops)))
+      graph-refused {out} n = ⊎-elim (λ l. refuse (lt-leb (length (halvesIn rows targets from to hops)) (length working / recordSize) l)) (λ l. absurd (n (counted-more ∙ rw (le-ltb (length working / recordSize) (length (halvesIn rows targets from to hops)) l)))) (lt-or-le (length working / recordSize) (length (halvesIn rows targets from to hops)))
         where
-          refuse : leb (length (halvesIn rows targets from to hops)) (length working / size) ≡ false → JoinsIn rows targets from to hops working working₁ out out (code.the-variants.Refused 18 0)
+          refuse : leb (length (halvesIn rows targets from to hops)) (length working / recordSize) ≡ false → JoinsIn rows targets from to hops working working₁ out out (code.the-variants.Refused 18 0)
           refuse f = record { answers = rw f; shelf = rw f counted-cells; cells = rw f }
 
-      fits-all : found .more ≡ 0 → length (halvesIn rows targets from to hops) ≤ length working / size
-      fits-all z = ⊎-elim (λ l. absurd (let o : _≡_ {A = ℕ} 0 1 = sym z ∙ counted-more ∙ rw (lt-ltb (length working / size) (length (halvesIn rows targets from to hops)) l) in omega arith)) (λ l. l) (lt-or-le (length working / size) (length (halvesIn rows targets from to hops)))
+      fits-all : found .more ≡ 0 → length (halvesIn rows targets from to hops) ≤ length working / recordSize
+      fits-all z = ⊎-elim (λ l. absurd (let o : _≡_ {A = ℕ} 0 1 = sym z ∙ counted-more ∙ rw (lt-ltb (length working / recordSize) (length (halvesIn rows targets from to hops)) l) in omega arith)) (λ l. l) (lt-or-le (length working / recordSize) (length (halvesIn rows targets from to hops)))
 
       module _ (z : found .more ≡ 0) {marks₂ : List Bool} {index₂ working₂ : List ℕ} {found₂ : Found}
           (w : Shelved rows targets (set blank 1 to) ending marks marks₂ index₂ working₁ working₂ 1 (places hops) found₂) where
         marks-same : marks₂ ≡ marked-from from
         marks-same = w .same ∙ c .same
 
-        room : length (halvesIn rows targets from to hops) ≤ length working / size
+        room : length (halvesIn rows targets from to hops) ≤ length working / recordSize
         room = fits-all z
 
-        page-written : page found₂ working₂ ≡ record { count = length (take (length working / size) (halvesIn rows targets from to hops)); more = pick (ltb (length working / size) (length (halvesIn rows targets from to hops))) 1 0; cells = written size (take (length working / size) (halvesIn rows targets from to hops)) working }
+        page-written : page found₂ working₂ ≡ record { count = length (take (length working / recordSize) (halvesIn rows targets from to hops)); more = cond (ltb (length working / recordSize) (length (halvesIn rows targets from to hops))) 1 0; cells = written recordSize (take (length working / recordSize) (halvesIn rows targets from to hops)) working }
         page-written =
             w .right
-            ∙ ap (λ (l : List ℕ). emits 1 (length l / size) (page nothing l) (map (recordWith blank 0) (halvesBefore (graphOf rows targets) (rightsOf (set blank 1 to) ending 0) marks (places hops)))) counted-cells
-            ∙ ap (emits 1 (length working / size) (page nothing working)) (shelved-halves (c .same))
+            ∙ ap (λ (l : List ℕ). emits 1 (length l / recordSize) (page nothing l) (map (recordWith blank 0) (halvesBefore (graphOf rows targets) (rightsOf (set blank 1 to) ending 0) marks (places hops)))) counted-cells
+            ∙ ap (emits 1 (length working / recordSize) (page nothing working)) (shelved-halves (c .same))
             ∙ emits-written working (halvesIn rows targets from to hops) halves-fit
 
-        working-written : working₂ ≡ written size (halvesIn rows targets from to hops) working
-        working-written = ap (λ (q : Page). q .cells) page-written ∙ ap (λ (l : List (List ℕ)). written size l working) (take-all (length working / size) (halvesIn rows targets from to hops) room)
+        working-written : working₂ ≡ written recordSize (halvesIn rows targets from to hops) working
+        working-written = ap (λ (q : Page). q .cells) page-written ∙ ap (λ (l : List (List ℕ)). written recordSize l working) (take-all (length working / recordSize) (halvesIn rows targets from to hops) room)
 
         noted : found₂ .more ≡ 0
-        noted = ap (λ (q : Page). q .more) page-written ∙ rw (le-ltb (length working / size) (length (halvesIn rows targets from to hops)) room)
+        noted = ap (λ (q : Page). q .more) page-written ∙ rw (le-ltb (length working / recordSize) (length (halvesIn rows targets from to hops)) room)
 
         indexes : (place : ℕ) → place ≤ places hops → getD index₂ place 0 ≡ length (halvesBefore (graphOf rows targets) (rightsOf (set blank 1 to) ending 0) (marked-from from) place)
         indexes place l = rw (← c .same) (w .indexes noted place l)
 
-        module _ (wide : length index₂ ≡ 5121) where
+        module _ (wide : length index₂ ≡ suc placesAtMost) where
           pub graph-gather : {out : List ℕ} → Gather rows targets working₂ index₂ marks₂ out from hops
           graph-gather = record {
             graph = k .graph;
@@ -148,7 +148,7 @@ module _ {rows targets : List ℕ} {from to hops : ℕ} (k : Passed rows targets
           unfolding joined
           ways-joined L l =
               rw (marks-same, working-written)
-              (meet-all (k .graph) (rightsOf (written size (halvesIn rows targets from to hops) working) index₂ (rightHops L)) (halfChains (graphOf rows targets) persons from to (rightHops L))
+              (meet-all (k .graph) (rightsOf (written recordSize (halvesIn rows targets from to hops) working) index₂ (rightHops L)) (halfChains (graphOf rows targets) persons from to (rightHops L))
               (rights-index (k .graph) from to (k .source) (k .target) (k .differ) (rightsOf (set blank 1 to) ending 0) (rights-ending e (k .target)) (marked-from from) from-marked hops (k .few) working index₂ (omega (arith, room)) (omega (arith, wide)) indexes (rightHops L) (right-within L hops l))
               (leftHops L) from (marked-from from) from-marked (k .source))
 
@@ -158,26 +158,26 @@ module _ {rows targets : List ℕ} {from to hops : ℕ} (k : Passed rows targets
               ∙ sym (shorter-one (joined (graphOf rows targets) persons from to) hops joined-none)
               ∙ join-all (graphOf rows targets) (k .graph .rising) persons (low-persons (k .graph)) from to (k .differ) hops
 
-          chains-fit : (x : List ℕ) → x ∈ byHops (graphOf rows targets) from to hops → Fits size x
-          chains-fit x m = listing-fits (graphOf rows targets) from to hops size (omega (arith, k .few)) x (byHops-iff (graphOf rows targets) from to hops x .0 m)
+          chains-fit : (x : List ℕ) → x ∈ byHops (graphOf rows targets) from to hops → Fits recordSize x
+          chains-fit x m = listing-fits (graphOf rows targets) from to hops recordSize (omega (arith, k .few)) x (byHops-iff (graphOf rows targets) from to hops x .0 m)
 
-          ended : (d n : ℕ) → eqb (pick (ltb d n) 1 0) 0 ≡ leb n d
+          ended : (d n : ℕ) → eqb (cond (ltb d n) 1 0) 0 ≡ leb n d
           ended d n = ⊎-elim (λ l. rw (lt-ltb d n l, lt-leb n d l)) (λ l. rw (le-ltb d n l, le-leb n d l)) (lt-or-le d n)
 
           pub graph-joined : {marks₃ : List Bool} {out out′ : List ℕ} {found₃ : Found} → Gathered rows targets working₂ index₂ marks₂ marks₃ out out′ from hops found₃
               → JoinsIn rows targets from to hops working working₂ out out′ (code.the-variants.Listed (found₃ .count) (eqb (found₃ .more) 0))
           graph-joined {out = out} {out′} {found₃} g =
               let C = byHops (graphOf rows targets) from to hops in
-              let done : page found₃ out′ ≡ record { count = length (take (length out / size) C); more = pick (ltb (length out / size) (length C)) 1 0; cells = written size (take (length out / size) C) out } =
+              let done : page found₃ out′ ≡ record { count = length (take (length out / recordSize) C); more = cond (ltb (length out / recordSize) (length C)) 1 0; cells = written recordSize (take (length out / recordSize) C) out } =
               g .right
-              ∙ ap (emits 1 (length out / size) (page nothing out))
-              (records-first from (fromOne (waysOf (graphOf rows targets) working₂ index₂ marks₂ from) hops) (λ x m. chains-fit x (subst (λ l. x ∈ l) chains-joined m)) ∙ ap (map (recordOf size)) chains-joined)
+              ∙ ap (emits 1 (length out / recordSize) (page nothing out))
+              (records-first from (fromOne (waysOf (graphOf rows targets) working₂ index₂ marks₂ from) hops) (λ x m. chains-fit x (subst (λ l. x ∈ l) chains-joined m)) ∙ ap (map (recordOf recordSize)) chains-joined)
               ∙ emits-written out C chains-fit in
               let count = ap (λ (q : Page). q .count) done in
               let more = ap (λ (q : Page). q .more) done in
-              let fit : leb (length (halvesIn rows targets from to hops)) (length working / size) ≡ true = le-leb (length (halvesIn rows targets from to hops)) (length working / size) room in
+              let fit : leb (length (halvesIn rows targets from to hops)) (length working / recordSize) ≡ true = le-leb (length (halvesIn rows targets from to hops)) (length working / recordSize) room in
               record {
-                answers = rw (fit, count, more, ended (length out / size) (length C));
+                answers = rw (fit, count, more, ended (length out / recordSize) (length C));
                 shelf = rw fit working-written;
                 cells = rw fit (ap (λ (q : Page). q .cells) done);
               }

@@ -1,6 +1,6 @@
 -- The ways on by marks are those of the definitions by persons seen: half chains, and left halves with the right halves that they meet.
 use mathlib.Core.Path.{_≡_, refl, sym, ap, _∙_}
-use mathlib.Core.Bool.{Bool, true, false}
+use mathlib.Core.Bool.{Bool, true, false, cond}
 use mathlib.Core.List.{List, [], _∷_, _++_, map, flatMap, map-map, map-append, append-nil, append-assoc, List·Memᴰ·head, List·Memᴰ·tail}
 use mathlib.Core.Logic.{⊎-elim}
 use Prim.Native.Nat.{ℕ, zero, suc, _+_, _≤_, _<_}
@@ -9,7 +9,7 @@ use lib.Seq.{getD-set-same, getD-set-other, append-snoc}
 use lib.Dec.{eqb}
 use native.Mathlib.Omega.{arith}
 use borrow.Author.Tests.{eq-eqb, ne-eqb}
-use Rattle.ways.specs.Graph.{Graph, _∈_, pick, among, keep}
+use Rattle.ways.specs.Graph.{Graph, _∈_, among, keep}
 use Rattle.ways.specs.Chain.{Last}
 use Rattle.ways.specs.Portions.{lastOr}
 use Rattle.ways.specs.Join.{onward, leftHalves, noneAmong, meets, glue, leftHops, rightHops, joined}
@@ -80,14 +80,14 @@ clear-none m (v ∷ w) = rw (m .each v, clear-none m w)
 -- ---- half chains: what follows ends at To
 
 abbrev pub atEnd : ℕ → ℕ → List (List ℕ)
-atEnd t p = pick (eqb p t) ([] ∷ []) []
+atEnd t p = cond (eqb p t) ([] ∷ []) []
 
 module _ {rows targets : List ℕ} (k : Compact rows targets) (t : ℕ) (rights : ℕ → List (List ℕ)) (ends : (p : ℕ) → p < persons → rights p ≡ atEnd t p) where
   pub following-onward : (i : ℕ) (marks : List Bool) (seen : List ℕ) (p : ℕ) → Marked marks seen → p < persons → following (graphOf rows targets) rights i marks p ≡ onward (graphOf rows targets) (λ q. eqb q t) i seen p
   unfolding following onward keep clear
   following-onward zero marks seen p m l = ap (keep (clear marks)) (ends p l) ∙ go (eqb p t)
     where
-      go : (b : Bool) → keep (clear marks) (pick b ([] ∷ []) []) ≡ pick b ([] ∷ []) []
+      go : (b : Bool) → keep (clear marks) (cond b ([] ∷ []) []) ≡ cond b ([] ∷ []) []
       go true = refl
       go false = refl
   following-onward (suc i) marks seen p m l =
@@ -99,7 +99,7 @@ module _ {rows targets : List ℕ} (k : Compact rows targets) (t : ℕ) (rights 
 unfoldable pub startingAt : List (List ℕ) → ℕ → List (List ℕ)
 startingAt [] p = []
 startingAt ([] ∷ hs) p = startingAt hs p
-startingAt ((m ∷ h) ∷ hs) p = pick (eqb p m) (h ∷ startingAt hs p) (startingAt hs p)
+startingAt ((m ∷ h) ∷ hs) p = cond (eqb p m) (h ∷ startingAt hs p) (startingAt hs p)
 
 same-among : (w a b : List ℕ) → ((x : ℕ) → among x a ≡ among x b) → noneAmong w a ≡ noneAmong w b
 unfolding noneAmong
@@ -119,7 +119,7 @@ module _ {marks : List Bool} {seen : List ℕ} (m : Marked marks seen) where
       rw (end, same) (go (eqb p v) (clear marks h) refl (meet-here (q ∷ l) p hs e last))
     where
       go : (a b : Bool) → clear marks h ≡ b → map (λ w. (q ∷ l) ++ w) (keep (clear marks) (startingAt hs p)) ≡ map (glue (q ∷ l)) (keep (meets (q ∷ l)) hs)
-          → map (λ w. (q ∷ l) ++ w) (keep (clear marks) (pick a (h ∷ startingAt hs p) (startingAt hs p))) ≡ map (glue (q ∷ l)) (pick (pick a b false) ((v ∷ h) ∷ keep (meets (q ∷ l)) hs) (keep (meets (q ∷ l)) hs))
+          → map (λ w. (q ∷ l) ++ w) (keep (clear marks) (cond a (h ∷ startingAt hs p) (startingAt hs p))) ≡ map (glue (q ∷ l)) (cond (cond a b false) ((v ∷ h) ∷ keep (meets (q ∷ l)) hs) (keep (meets (q ∷ l)) hs))
       go true true f r = rw (f, r)
       go true false f r = rw (f, r)
       go false b f r = r
@@ -129,7 +129,7 @@ unfolding among
 among-snoc x v [] = refl
 among-snoc x v (q ∷ l) = rw (among-snoc x v l) (go (eqb x q) (eqb x v) (among x l))
   where
-    go : (a b c : Bool) → pick a true (pick b true c) ≡ pick b true (pick a true c)
+    go : (a b c : Bool) → cond a true (cond b true c) ≡ cond b true (cond a true c)
     go true true c = refl
     go true false c = refl
     go false true c = refl
@@ -137,7 +137,7 @@ among-snoc x v (q ∷ l) = rw (among-snoc x v l) (go (eqb x q) (eqb x v) (among 
 
 among-more : (x v : ℕ) (l seen : List ℕ) → among x l ≡ among x seen → among x (l ++ (v ∷ [])) ≡ among x (v ∷ seen)
 unfolding among
-among-more x v l seen e = among-snoc x v l ∙ ap (pick (eqb x v) true) e
+among-more x v l seen e = among-snoc x v l ∙ ap (cond (eqb x v) true) e
 
 module _ {rows targets : List ℕ} (k : Compact rows targets) (rights : ℕ → List (List ℕ)) (hs : List (List ℕ)) (starts : (p : ℕ) → p < persons → rights p ≡ startingAt hs p) where
   meet : (i : ℕ) (marks : List Bool) (seen l : List ℕ) (p : ℕ) → Marked marks seen → ((x : ℕ) → among x l ≡ among x seen) → Last p l → p < persons
@@ -154,11 +154,11 @@ module _ {rows targets : List ℕ} (k : Compact rows targets) (rights : ℕ → 
       let b = row-people p k h j in
       step v (among v seen) (m .each v)
       (meet i (set marks v true) (v ∷ seen) (l ++ (v ∷ [])) v (marked-more v b m) (λ x. among-more x v l seen (e x)) (last-snoc v l) b))
-      ∙ sym (flatMap-flatMap (λ w. map (glue (l ++ w)) (keep (meets (l ++ w)) hs)) (λ v. pick (among v seen) [] (map (_∷_ v) (onward (graphOf rows targets) (λ q. true) i (v ∷ seen) v))) (graphOf rows targets p))
+      ∙ sym (flatMap-flatMap (λ w. map (glue (l ++ w)) (keep (meets (l ++ w)) hs)) (λ v. cond (among v seen) [] (map (_∷_ v) (onward (graphOf rows targets) (λ q. true) i (v ∷ seen) v))) (graphOf rows targets p))
     where
       step : (v : ℕ) (b : Bool) → getD marks v false ≡ b
           → map (λ w. (l ++ (v ∷ [])) ++ w) (following (graphOf rows targets) rights i (set marks v true) v) ≡ flatMap (λ w. map (glue ((l ++ (v ∷ [])) ++ w)) (keep (meets ((l ++ (v ∷ [])) ++ w)) hs)) (onward (graphOf rows targets) (λ q. true) i (v ∷ seen) v)
-          → map (λ w. l ++ w) (taking (graphOf rows targets) rights i marks v) ≡ flatMap (λ w. map (glue (l ++ w)) (keep (meets (l ++ w)) hs)) (pick b [] (map (_∷_ v) (onward (graphOf rows targets) (λ q. true) i (v ∷ seen) v)))
+          → map (λ w. l ++ w) (taking (graphOf rows targets) rights i marks v) ≡ flatMap (λ w. map (glue (l ++ w)) (keep (meets (l ++ w)) hs)) (cond b [] (map (_∷_ v) (onward (graphOf rows targets) (λ q. true) i (v ∷ seen) v)))
       step v true f on = rw f
       step v false f on =
           rw f

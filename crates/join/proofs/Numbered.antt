@@ -7,10 +7,10 @@ use lib.Dec.{leb}
 use Rattle.linkfile.specs.Verdict.{Fault, sound, unless, Numbered}
 use Rattle.linkfile.proofs.Numbered.{numbered-unless, numbered-first, numbered-more}
 use Rattle.ways.specs.Halves.{halvesFit}
+use Rattle.ways.specs.Sizes.{recordSize}
 use Rattle.question.specs.declared.Question.{Question}
 use Rattle.question.specs.Asked.{askedFault}
 use Rattle.question.proofs.Numbered.{asked-numbered}
-use Rattle.portion.specs.Listing.{recordSize}
 use Rattle.join.specs.Lists.{halvesFor, joinFault}
 
 pub join-numbered : (file : List ℕ) (q : Question) (working out : List ℕ) → Numbered 18 (joinFault file q working out)

@@ -13,10 +13,10 @@ use Rattle.linkfile.specs.Verdict.{Fault, sound, fault}
 use Rattle.ways.specs.Graph.{_∈_}
 use Rattle.ways.specs.Listing.{listing}
 use Rattle.ways.specs.Records.{roomOf, written}
+use Rattle.ways.specs.Sizes.{recordSize}
 use Rattle.ways.proofs.ByHops.{byHops-iff}
 use Rattle.question.specs.declared.Question.{Question}
 use Rattle.question.specs.Admission.{next}
-use Rattle.portion.specs.Listing.{recordSize}
 use Rattle.join.specs.Lists.{halvesFor, chainsFor, joinFault, firstOnes, allFit}
 use Rattle.portion.specs.Answers.{Answer, listed, refused, answerSaid, answerFor, cellsFor}
 use Rattle.join.specs.Answers.{Joins}

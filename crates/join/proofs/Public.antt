@@ -18,6 +18,7 @@ use Rattle.linkfile.proofs.Passed as file-passed
 use Rattle.ways.specs.Graph.{Graph, _∈_}
 use Rattle.ways.specs.ByHops.{byHops}
 use Rattle.ways.specs.Halves.{halves}
+use Rattle.ways.specs.Sizes.{recordSize}
 use Rattle.ways.proofs.Halves.{halves-exact, halves-ordered, halves-determined}
 use Rattle.compact.specs.Compact.{persons, graphOf, Compact}
 use Rattle.question.specs.declared.Question.{Question}
@@ -26,7 +27,6 @@ use Rattle.question.specs.Admission.{next}
 use Rattle.question.specs.Filled.{Filled, Fillable}
 use Rattle.question.proofs.Refused.{asked-passed}
 use Rattle.question.proofs.Leads.{next-none}
-use Rattle.portion.specs.Listing.{recordSize}
 use Rattle.join.specs.Lists.{halvesFor, chainsFor, roomFault, halvesFault, joinFault}
 use Rattle.join.specs.Answers.{Answered, Joins, Passed, halvesIn, JoinsIn}
 use Rattle.portion.specs.declared.Answer as code

@@ -1,6 +1,6 @@
 -- From the account of what was handed over to the cells: records of chains, the first of them where there is room.
 use mathlib.Core.Path.{_≡_, refl, sym, ap, _∙_}
-use mathlib.Core.Bool.{Bool, true, false}
+use mathlib.Core.Bool.{Bool, true, false, cond}
 use mathlib.Core.List.{List, [], _∷_, _++_, map, append-assoc, List·Memᴰ·head, List·Memᴰ·tail}
 use mathlib.Core.Logic.{⊎-elim}
 use Prim.Native.Nat.{ℕ, zero, suc, _+_, _-_, _*_, _/_, _≤_, _<_, min}
@@ -11,11 +11,12 @@ use native.Mathlib.Omega.{arith}
 use native.Mathlib.Nat.{add-zero, zero-add, zero-min, min-zero, suc-min-suc, sub-zero}
 use native.Mathlib.Numerals.{add-one, one-add}
 use borrow.Author.Tests.{eq-eqb, ne-eqb, lt-ltb, le-ltb, le-leb, lt-leb}
-use Rattle.ways.specs.Graph.{_∈_, pick}
+use Rattle.ways.specs.Graph.{_∈_}
 use Rattle.ways.specs.Chain.{hops}
 use Rattle.ways.specs.Records.{recordOf, Fits, cellsOf, written}
+use Rattle.ways.specs.Sizes.{recordSize}
 use Rattle.ways.proofs.Records.{length-recordOf}
-use Rattle.join.specs.Pages.{size, Page, page, emit, emits, recordWith}
+use Rattle.join.specs.Pages.{Page, page, emit, emits, recordWith}
 use Rattle.join.specs.Shelf.{blank, nothing}
 use Rattle.join.proofs.Cases.{lt-or-le}
 use Rattle.join.proofs.Writing.{emits-more, recordWith-more}
@@ -27,24 +28,24 @@ drop-zeros zero m = rw sub-zero
 drop-zeros (suc n) zero = let e : 0 - suc n ≡ 0 = omega arith in rw e
 drop-zeros (suc n) (suc m) = let e : suc m - suc n ≡ m - n = omega arith in rw e (drop-zeros n m)
 
-pub recordWith-blank : (c : List ℕ) → Fits size c → recordWith blank 0 c ≡ recordOf size c
+pub recordWith-blank : (c : List ℕ) → Fits recordSize c → recordWith blank 0 c ≡ recordOf recordSize c
 unfolding recordWith recordOf
 recordWith-blank [] f = absurd (omega (arith, f .some))
 recordWith-blank (p ∷ c) f =
     let n : 0 + suc (length c) - 1 ≡ length c = omega arith in
-    let zeros : drop (1 + suc (length c)) blank ≡ replicate (size - suc (suc (length c))) 0 = rw (one-add (suc (length c))) (drop-zeros (suc (length c)) 9 ∙ ap (λ (m : ℕ). replicate m 0) (let e : 9 - suc (length c) ≡ size - suc (suc (length c)) = omega arith in e)) in
+    let zeros : drop (1 + suc (length c)) blank ≡ replicate (recordSize - suc (suc (length c))) 0 = rw (one-add (suc (length c))) (drop-zeros (suc (length c)) (recordSize - 1) ∙ ap (λ (m : ℕ). replicate m 0) (let e : recordSize - 1 - suc (length c) ≡ recordSize - suc (suc (length c)) = omega arith in e)) in
     ap (λ (m : ℕ). m ∷ ((p ∷ take (length c) c) ++ drop (1 + suc (length c)) blank)) n
     ∙ ap (λ (l : List ℕ). length c ∷ ((p ∷ l) ++ drop (1 + suc (length c)) blank)) (take-length c)
     ∙ ap (λ (l : List ℕ). length c ∷ ((p ∷ c) ++ l)) zeros
 
-pub records-blank : (L : List (List ℕ)) → ((c : List ℕ) → c ∈ L → Fits size c) → map (recordWith blank 0) L ≡ map (recordOf size) L
+pub records-blank : (L : List (List ℕ)) → ((c : List ℕ) → c ∈ L → Fits recordSize c) → map (recordWith blank 0) L ≡ map (recordOf recordSize) L
 records-blank [] f = refl
 records-blank (c ∷ L) f = rw (recordWith-blank c (f c (List·Memᴰ·head refl)), records-blank L (λ d m. f d (List·Memᴰ·tail m)))
 
-pub records-first : (from : ℕ) (ws : List (List ℕ)) → ((c : List ℕ) → c ∈ map (_∷_ from) ws → Fits size c) → map (recordWith (set blank 1 from) 1) ws ≡ map (recordOf size) (map (_∷_ from) ws)
+pub records-first : (from : ℕ) (ws : List (List ℕ)) → ((c : List ℕ) → c ∈ map (_∷_ from) ws → Fits recordSize c) → map (recordWith (set blank 1 from) 1) ws ≡ map (recordOf recordSize) (map (_∷_ from) ws)
 records-first from [] f = refl
 records-first from (w ∷ ws) f =
-    let e : recordWith (set blank 1 from) 1 w ≡ recordOf size (from ∷ w) = recordWith-more blank 0 from w (omega arith) ∙ recordWith-blank (from ∷ w) (f (from ∷ w) (List·Memᴰ·head refl)) in
+    let e : recordWith (set blank 1 from) 1 w ≡ recordOf recordSize (from ∷ w) = recordWith-more blank 0 from w (omega arith) ∙ recordWith-blank (from ∷ w) (f (from ∷ w) (List·Memᴰ·head refl)) in
     rw (e, records-first from ws (λ d m. f d (List·Memᴰ·tail m)))
 
 -- ---- only counting: as when writing, and no cell changes
@@ -54,7 +55,7 @@ unfolding emits
 emits-cells room s [] = refl
 emits-cells room s (x ∷ xs) = emits-cells room (emit 0 room s x) xs ∙ go (eqb (s .more) 0) (ltb (s .count) room)
   where
-    go : (a b : Bool) → pick a (pick b (record { count = s .count + 1; more = 0; cells = s .cells }) (record { count = s .count; more = 1; cells = s .cells })) s .cells ≡ s .cells
+    go : (a b : Bool) → cond a (cond b (record { count = s .count + 1; more = 0; cells = s .cells }) (record { count = s .count; more = 1; cells = s .cells })) s .cells ≡ s .cells
     go true true = refl
     go true false = refl
     go false b = refl
@@ -66,9 +67,9 @@ emits-noted room [] count more cells cells′ = refl
 emits-noted room (x ∷ xs) count more cells cells′ = go (eqb more 0) (ltb count room) (λ c n d. emits-noted room xs c n cells d)
   where
     go : (a b : Bool) → ((c n : ℕ) (d : List ℕ) → emits 0 room (record { count = c; more = n; cells = cells }) xs .more ≡ emits 1 room (record { count = c; more = n; cells = d }) xs .more)
-        → emits 0 room (pick a (pick b (record { count = count + 1; more = 0; cells = cells }) (record { count = count; more = 1; cells = cells })) (record { count = count; more = more; cells = cells })) xs .more
-        ≡ emits 1 room (pick a (pick b (record { count = count + 1; more = 0; cells = paste cells′ (count * size) x size }) (record { count = count; more = 1; cells = cells′ })) (record { count = count; more = more; cells = cells′ })) xs .more
-    go true true on = on (count + 1) 0 (paste cells′ (count * size) x size)
+        → emits 0 room (cond a (cond b (record { count = count + 1; more = 0; cells = cells }) (record { count = count; more = 1; cells = cells })) (record { count = count; more = more; cells = cells })) xs .more
+        ≡ emits 1 room (cond a (cond b (record { count = count + 1; more = 0; cells = paste cells′ (count * recordSize) x recordSize }) (record { count = count; more = 1; cells = cells′ })) (record { count = count; more = more; cells = cells′ })) xs .more
+    go true true on = on (count + 1) 0 (paste cells′ (count * recordSize) x recordSize)
     go true false on = on count 1 cells′
     go false b on = on count more cells′
 
@@ -80,51 +81,51 @@ page-eq p q r = rw (p, q, r)
 ltb-suc : (a b : ℕ) → ltb (suc a) (suc b) ≡ ltb a b
 ltb-suc a b = ⊎-elim (λ l. lt-ltb (suc a) (suc b) (omega arith) ∙ sym (lt-ltb a b l)) (λ l. le-ltb (suc a) (suc b) (omega arith) ∙ sym (le-ltb a b l)) (lt-or-le a b)
 
-pasted : (c : ℕ) (front rest r : List ℕ) → length front ≡ c * size → length r ≡ size → paste (front ++ rest) (c * size) r size ≡ (front ++ r) ++ drop size rest
+pasted : (c : ℕ) (front rest r : List ℕ) → length front ≡ c * recordSize → length r ≡ recordSize → paste (front ++ rest) (c * recordSize) r recordSize ≡ (front ++ r) ++ drop recordSize rest
 pasted c front rest r lf h =
-    ap (λ (x : List ℕ). x ++ take size r ++ drop (c * size + size) (front ++ rest)) (take-at front rest (c * size) lf)
-    ∙ ap (λ (x : List ℕ). front ++ x ++ drop (c * size + size) (front ++ rest)) (take-all size r (omega (arith, h)))
-    ∙ ap (λ (n : ℕ). (front ++ r) ++ drop (n + size) (front ++ rest)) (sym lf)
-    ∙ ap (λ (x : List ℕ). (front ++ r) ++ x) (drop-append-add front rest size)
+    ap (λ (x : List ℕ). x ++ take recordSize r ++ drop (c * recordSize + recordSize) (front ++ rest)) (take-at front rest (c * recordSize) lf)
+    ∙ ap (λ (x : List ℕ). front ++ x ++ drop (c * recordSize + recordSize) (front ++ rest)) (take-all recordSize r (omega (arith, h)))
+    ∙ ap (λ (n : ℕ). (front ++ r) ++ drop (n + recordSize) (front ++ rest)) (sym lf)
+    ∙ ap (λ (x : List ℕ). (front ++ r) ++ x) (drop-append-add front rest recordSize)
 
 -- with room for d more behind c that are written
-emits-chains : (d c : ℕ) (front rest : List ℕ) (L : List (List ℕ)) → length front ≡ c * size → d * size ≤ length rest → ((x : List ℕ) → x ∈ L → Fits size x)
-    → emits 1 (c + d) (record { count = c; more = 0; cells = front ++ rest }) (map (recordOf size) L)
-    ≡ record { count = c + min d (length L); more = pick (ltb d (length L)) 1 0; cells = front ++ (cellsOf size (take d L) ++ drop (min d (length L) * size) rest) }
+emits-chains : (d c : ℕ) (front rest : List ℕ) (L : List (List ℕ)) → length front ≡ c * recordSize → d * recordSize ≤ length rest → ((x : List ℕ) → x ∈ L → Fits recordSize x)
+    → emits 1 (c + d) (record { count = c; more = 0; cells = front ++ rest }) (map (recordOf recordSize) L)
+    ≡ record { count = c + min d (length L); more = cond (ltb d (length L)) 1 0; cells = front ++ (cellsOf recordSize (take d L) ++ drop (min d (length L) * recordSize) rest) }
 unfolding emits cellsOf
 emits-chains d c front rest [] lf lr f =
     page-eq (rw min-zero (sym (add-zero c))) (rw (le-ltb d 0 (omega arith))) (rw (take-nil, min-zero))
 emits-chains zero c front rest (x ∷ L) lf lr f =
-    let one : emit 1 (c + 0) (record { count = c; more = 0; cells = front ++ rest }) (recordOf size x) ≡ record { count = c; more = 1; cells = front ++ rest } = rw (le-ltb c (c + 0) (omega arith)) in
-    ap (λ (q : Page). emits 1 (c + 0) q (map (recordOf size) L)) one
-    ∙ (emits-more 1 (c + 0) (record { count = c; more = 1; cells = front ++ rest }) (map (recordOf size) L) (λ z. omega arith)
+    let one : emit 1 (c + 0) (record { count = c; more = 0; cells = front ++ rest }) (recordOf recordSize x) ≡ record { count = c; more = 1; cells = front ++ rest } = rw (le-ltb c (c + 0) (omega arith)) in
+    ap (λ (q : Page). emits 1 (c + 0) q (map (recordOf recordSize) L)) one
+    ∙ (emits-more 1 (c + 0) (record { count = c; more = 1; cells = front ++ rest }) (map (recordOf recordSize) L) (λ z. omega arith)
     ∙ page-eq (rw zero-min (sym (add-zero c))) (rw (lt-ltb 0 (suc (length L)) (omega arith))) (rw zero-min))
 emits-chains (suc d) c front rest (x ∷ L) lf lr f =
-    let r = recordOf size x in
-    let h : length r ≡ size = length-recordOf size x (f x (List·Memᴰ·head refl) .room) in
+    let r = recordOf recordSize x in
+    let h : length r ≡ recordSize = length-recordOf recordSize x (f x (List·Memᴰ·head refl) .room) in
     let room : c + suc d ≡ c + 1 + d = omega arith in
-    let start : emit 1 (c + suc d) (record { count = c; more = 0; cells = front ++ rest }) r ≡ record { count = c + 1; more = 0; cells = (front ++ r) ++ drop size rest }
+    let start : emit 1 (c + suc d) (record { count = c; more = 0; cells = front ++ rest }) r ≡ record { count = c + 1; more = 0; cells = (front ++ r) ++ drop recordSize rest }
     = rw (lt-ltb c (c + suc d) (omega arith)) (page-eq refl refl (pasted c front rest r lf h)) in
-    let goes = emits-chains d (c + 1) (front ++ r) (drop size rest) L (rw (length-append, h) (omega (arith, lf))) (rw length-drop (omega arith)) (λ y m. f y (List·Memᴰ·tail m)) in
+    let goes = emits-chains d (c + 1) (front ++ r) (drop recordSize rest) L (rw (length-append, h) (omega (arith, lf))) (rw length-drop (omega arith)) (λ y m. f y (List·Memᴰ·tail m)) in
     let n : min (suc d) (suc (length L)) ≡ suc (min d (length L)) = suc-min-suc d (length L) in
-    let cells : size + min d (length L) * size ≡ suc (min d (length L)) * size = omega arith in
-    ap (λ (q : Page). emits 1 (c + suc d) q (map (recordOf size) L)) start
-    ∙ ap (λ (i : ℕ). emits 1 i (record { count = c + 1; more = 0; cells = (front ++ r) ++ drop size rest }) (map (recordOf size) L)) room
+    let cells : recordSize + min d (length L) * recordSize ≡ suc (min d (length L)) * recordSize = omega arith in
+    ap (λ (q : Page). emits 1 (c + suc d) q (map (recordOf recordSize) L)) start
+    ∙ ap (λ (i : ℕ). emits 1 i (record { count = c + 1; more = 0; cells = (front ++ r) ++ drop recordSize rest }) (map (recordOf recordSize) L)) room
     ∙ (goes
     ∙ page-eq
     (rw n (omega arith))
     (rw ltb-suc)
     (append-assoc front r _
-    ∙ ap (λ (y : List ℕ). front ++ y) (sym (append-assoc r (cellsOf size (take d L)) _)
-    ∙ ap (λ (y : List ℕ). (r ++ cellsOf size (take d L)) ++ y) (drop-drop (min d (length L) * size) size rest ∙ ap (λ (i : ℕ). drop i rest) (cells ∙ ap (λ (i : ℕ). i * size) (sym n))))))
+    ∙ ap (λ (y : List ℕ). front ++ y) (sym (append-assoc r (cellsOf recordSize (take d L)) _)
+    ∙ ap (λ (y : List ℕ). (r ++ cellsOf recordSize (take d L)) ++ y) (drop-drop (min d (length L) * recordSize) recordSize rest ∙ ap (λ (i : ℕ). drop i rest) (cells ∙ ap (λ (i : ℕ). i * recordSize) (sym n))))))
 
 -- all at once: how many, whether one more, and the cells
-pub emits-written : (out : List ℕ) (L : List (List ℕ)) → ((x : List ℕ) → x ∈ L → Fits size x)
-    → emits 1 (length out / size) (page nothing out) (map (recordOf size) L)
-    ≡ record { count = length (take (length out / size) L); more = pick (ltb (length out / size) (length L)) 1 0; cells = written size (take (length out / size) L) out }
+pub emits-written : (out : List ℕ) (L : List (List ℕ)) → ((x : List ℕ) → x ∈ L → Fits recordSize x)
+    → emits 1 (length out / recordSize) (page nothing out) (map (recordOf recordSize) L)
+    ≡ record { count = length (take (length out / recordSize) L); more = cond (ltb (length out / recordSize) (length L)) 1 0; cells = written recordSize (take (length out / recordSize) L) out }
 unfolding written
 emits-written out L f =
-    let room = length out / size in
-    ap (λ (n : ℕ). emits 1 n (page nothing out) (map (recordOf size) L)) (sym (zero-add room))
+    let room = length out / recordSize in
+    ap (λ (n : ℕ). emits 1 n (page nothing out) (map (recordOf recordSize) L)) (sym (zero-add room))
     ∙ emits-chains room 0 [] out L refl (omega arith) f
-    ∙ page-eq (zero-add _ ∙ sym (length-take room L)) refl (ap (λ (i : ℕ). cellsOf size (take room L) ++ drop (i * size) out) (sym (length-take room L)))
+    ∙ page-eq (zero-add _ ∙ sym (length-take room L)) refl (ap (λ (i : ℕ). cellsOf recordSize (take room L) ++ drop (i * recordSize) out) (sym (length-take room L)))

@@ -12,13 +12,14 @@ use native.Mathlib.Nat.{add-zero}
 use native.Mathlib.Numerals.{add-one}
 use native.Mathlib.Decide.{decLe}
 use borrow.Author.Tests.{eq-eqb, ne-eqb, lt-ltb, le-ltb}
-use Rattle.ways.specs.Graph.{Graph, pick}
+use Rattle.ways.specs.Graph.{Graph}
 use Rattle.ways.specs.Halves.{personsBelow}
 use Rattle.ways.specs.Join.{leftHops, rightHops}
+use Rattle.ways.specs.Sizes.{recordSize}
 use Rattle.ways.proofs.Members.{flatMap-append}
 use Rattle.ways.proofs.Join.{right-within}
 use Rattle.compact.specs.Compact.{persons, graphOf, Compact}
-use Rattle.join.specs.Pages.{size, Page, page, emit, emits, recordWith}
+use Rattle.join.specs.Pages.{Page, page, emit, emits, recordWith}
 use Rattle.join.specs.Walks.{rightsOf, Indexed, Open, Ready, following, taking, Going, Extended}
 use Rattle.join.specs.Shelf.{Lone, Ended, blank, nothing, Begin, Begun, halvesAt, halvesBefore, Shelve, Shelved, fromOne, waysOf, Gather, Gathered}
 use Rattle.join.specs.declared.extend.Walk.{Walk}
@@ -124,7 +125,7 @@ module _ (g : Graph) (rights : ℕ → List (List ℕ)) (marks : List Bool) wher
 
 pub record Shelving (rows targets only ending : List ℕ) (marks₀ : List Bool) (index₀ working₀ : List ℕ) (writes places room : ℕ) (marks : List Bool) (index working : List ℕ) (got : Found) (place : ℕ) : Type 0 where
   pub shelve : Shelve rows targets only ending marks₀ index₀ working₀ writes places
-  pub rooms : room ≡ length working₀ / size
+  pub rooms : room ≡ length working₀ / recordSize
   pub same : marks ≡ marks₀
   pub wide : length index ≡ length index₀
   pub long : length working ≡ length working₀
@@ -138,7 +139,7 @@ abbrev pub first-at : ℕ → ℕ → ℕ → Walk
 first-at writes room place = record { writes = writes; room = room; rest = 0; len = 1; left = place / persons }
 
 module _ {rows targets only ending : List ℕ} {marks : List Bool} {index working : List ℕ} {writes places : ℕ} where
-  pub shelve-start : Shelve rows targets only ending marks index working writes places → Shelving rows targets only ending marks index working writes places (length working / size) marks index working nothing 0
+  pub shelve-start : Shelve rows targets only ending marks index working writes places → Shelving rows targets only ending marks index working writes places (length working / recordSize) marks index working nothing 0
   unfolding personsBelow flatMap emits
   shelve-start k = record { shelve = k; rooms = refl; same = refl; wide = refl; long = refl; within = omega arith; none = refl; right = refl; indexes = λ b h. absurd (omega arith) }
 
@@ -226,7 +227,7 @@ from-next f k = rw (add-one k)
 
 pub record Gathering (rows targets halves index : List ℕ) (marks₀ : List Bool) (out₀ : List ℕ) (from hops room : ℕ) (chain : List ℕ) (marks : List Bool) (out : List ℕ) (got : Found) (done : ℕ) : Type 0 where
   pub gather : Gather rows targets halves index marks₀ out₀ from hops
-  pub rooms : room ≡ length out₀ / size
+  pub rooms : room ≡ length out₀ / recordSize
   pub first : chain ≡ set blank 1 from
   pub same : marks ≡ marks₀
   pub long : length out ≡ length out₀
@@ -239,7 +240,7 @@ abbrev pub halved : ℕ → ℕ → Walk
 halved room L = record { writes = 1; room = room; rest = rightHops L; len = 1; left = leftHops L }
 
 module _ {rows targets halves index : List ℕ} {marks : List Bool} {out : List ℕ} {from hops : ℕ} where
-  pub gather-start : Gather rows targets halves index marks out from hops → Gathering rows targets halves index marks out from hops (length out / size) (set blank 1 from) marks out nothing 0
+  pub gather-start : Gather rows targets halves index marks out from hops → Gathering rows targets halves index marks out from hops (length out / recordSize) (set blank 1 from) marks out nothing 0
   unfolding fromOne emits
   gather-start k = record { gather = k; rooms = refl; first = refl; same = refl; long = refl; within = omega arith; none = refl; right = refl }
 

@@ -1,6 +1,6 @@
 -- Where the half chains stand: those handed over are the half chains, and by the index those that start at a person are found.
 use mathlib.Core.Path.{_≡_, refl, sym, ap, subst, _∙_, fun-ext}
-use mathlib.Core.Bool.{Bool, true, false}
+use mathlib.Core.Bool.{Bool, true, false, cond}
 use mathlib.Core.List.{List, [], _∷_, _++_, map, flatMap, map-map, append-nil, append-assoc, List·Memᴰ·head, List·Memᴰ·tail, List·Memᴰ·not-nil, List·Memᴰ·cases-cons, List·Memᴰ·append-cases, Memᴰ·append-left, Memᴰ·append-right, Memᴰ·of-map}
 use mathlib.Core.Logic.{_≢_, _⊎_, inl, inr, ⊎-elim}
 use Prim.Native.Nat.{ℕ, zero, suc, _+_, _-_, _*_, _/_, _%_, _≤_, _<_}
@@ -11,21 +11,22 @@ use native.Mathlib.Omega.{arith}
 use native.Mathlib.Nat.{add-zero, add-suc}
 use native.Mathlib.Numerals.{add-one}
 use borrow.Author.Tests.{eq-eqb, ne-eqb, lt-ltb, le-ltb}
-use Rattle.ways.specs.Graph.{Graph, _∈_, pick, among}
+use Rattle.ways.specs.Graph.{Graph, _∈_, among}
 use Rattle.ways.specs.Chain.{Last, Linked, hops}
 use Rattle.ways.specs.Records.{recordOf, Fits, cellsOf, written}
 use Rattle.ways.specs.ByHops.{shorterFirst}
 use Rattle.ways.specs.Halves.{HalfChain, personsBelow, halfChains, halves}
 use Rattle.ways.specs.Join.{onward}
+use Rattle.ways.specs.Sizes.{recordSize, mostHops}
 use Rattle.ways.proofs.Members.{flatMap-append}
 use Rattle.ways.proofs.Records.{cellsOf-append, length-cellsOf, length-recordOf, length-written}
 use Rattle.ways.proofs.Halves.{persons-below, halves-exact, half-fits}
 use Rattle.ways.proofs.Onward.{onward-from, halfChains-onward}
 use Rattle.compact.specs.Compact.{persons, graphOf, Compact}
 use Rattle.compact.proofs.Rows.{row-none}
-use Rattle.join.specs.Pages.{size, part}
+use Rattle.join.specs.Pages.{part}
 use Rattle.join.specs.Walks.{restOf, restsOf, placeOf, rightsOf, Indexed, following, taking}
-use Rattle.join.specs.Shelf.{Ended, blank, halvesAt, halvesBefore}
+use Rattle.join.specs.Shelf.{Ended, blank, halvesAt, halvesBefore, placesAtMost}
 use Rattle.join.proofs.Cases.{same-or-not, lt-or-le}
 use Rattle.join.proofs.Shelving.{before-next, before-more}
 use Rattle.join.proofs.Meeting.{flatMap-same, Marked, nobody, marked-more, atEnd, following-onward, startingAt}
@@ -57,7 +58,7 @@ module _ {ending : List ℕ} {t : ℕ} (e : Ended ending t) (place : t < persons
   }
     where
       zeros : (c : ℕ) → getD blank c 0 < persons
-      zeros c = ⊎-elim (λ l. omega (arith, getD-replicate {A = ℕ} size c 0 0 l)) (λ l. omega (arith, List·getD-eq-default blank 0 {n = c} l)) (lt-or-le c size)
+      zeros c = ⊎-elim (λ l. omega (arith, getD-replicate {A = ℕ} recordSize c 0 0 l)) (λ l. omega (arith, List·getD-eq-default blank 0 {n = c} l)) (lt-or-le c recordSize)
 
 -- ---- place by place
 
@@ -94,24 +95,24 @@ starting-append [] b p = refl
 starting-append ([] ∷ a) b p = starting-append a b p
 starting-append ((m ∷ h) ∷ a) b p = rw (starting-append a b p) (go (eqb p m))
   where
-    go : (x : Bool) → pick x (h ∷ (startingAt a p ++ startingAt b p)) (startingAt a p ++ startingAt b p) ≡ pick x (h ∷ startingAt a p) (startingAt a p) ++ startingAt b p
+    go : (x : Bool) → cond x (h ∷ (startingAt a p ++ startingAt b p)) (startingAt a p ++ startingAt b p) ≡ cond x (h ∷ startingAt a p) (startingAt a p) ++ startingAt b p
     go true = refl
     go false = refl
 
-starting-map : (q : ℕ) (ws : List (List ℕ)) (p : ℕ) → startingAt (map (_∷_ q) ws) p ≡ pick (eqb p q) ws []
+starting-map : (q : ℕ) (ws : List (List ℕ)) (p : ℕ) → startingAt (map (_∷_ q) ws) p ≡ cond (eqb p q) ws []
 unfolding startingAt
 starting-map q [] p = go (eqb p q)
   where
-    go : (x : Bool) → _≡_ {A = List (List ℕ)} [] (pick x [] [])
+    go : (x : Bool) → _≡_ {A = List (List ℕ)} [] (cond x [] [])
     go true = refl
     go false = refl
 starting-map q (w ∷ ws) p = rw (starting-map q ws p) (go (eqb p q))
   where
-    go : (x : Bool) → pick x (w ∷ pick x ws []) (pick x ws []) ≡ pick x (w ∷ ws) []
+    go : (x : Bool) → cond x (w ∷ cond x ws []) (cond x ws []) ≡ cond x (w ∷ ws) []
     go true = refl
     go false = refl
 
-starting-row : (T : ℕ → List (List ℕ)) (n p : ℕ) → startingAt (flatMap (λ q. map (_∷_ q) (T q)) (personsBelow n)) p ≡ pick (ltb p n) (T p) []
+starting-row : (T : ℕ → List (List ℕ)) (n p : ℕ) → startingAt (flatMap (λ q. map (_∷_ q) (T q)) (personsBelow n)) p ≡ cond (ltb p n) (T p) []
 unfolding personsBelow flatMap startingAt
 starting-row T zero p = rw (le-ltb p 0 (omega arith))
 starting-row T (suc n) p =
@@ -120,7 +121,7 @@ starting-row T (suc n) p =
     ∙ rw (starting-row T n p, append-nil (map (_∷_ n) (T n)), starting-map n (T n) p)
     (three (lt-or-le p n) (same-or-not p n))
   where
-    three : (p < n) ⊎ (n ≤ p) → (p ≡ n) ⊎ (p ≡ n → ⊥) → pick (ltb p n) (T p) [] ++ pick (eqb p n) (T n) [] ≡ pick (ltb p (suc n)) (T p) []
+    three : (p < n) ⊎ (n ≤ p) → (p ≡ n) ⊎ (p ≡ n → ⊥) → cond (ltb p n) (T p) [] ++ cond (eqb p n) (T n) [] ≡ cond (ltb p (suc n)) (T p) []
     three (inl l) e = rw (lt-ltb p n l, lt-ltb p (suc n) (omega arith), ne-eqb p n (λ q. omega arith)) (append-nil (T p))
     three (inr l) (inl e) = rw (le-ltb p n l, lt-ltb p (suc n) (omega arith), eq-eqb p n e) (ap T (sym e))
     three (inr l) (inr i) = rw (le-ltb p n l, le-ltb p (suc n) (omega (arith, i)), ne-eqb p n i)
@@ -132,45 +133,45 @@ abbrev pub behind : List ℕ → List ℕ
 behind [] = []
 behind (p ∷ h) = h
 
-part-record : (j : ℕ) (h cells : List ℕ) → Fits size h → hops h ≡ j → take j (drop 2 (recordOf size h ++ cells)) ≡ behind h
+part-record : (j : ℕ) (h cells : List ℕ) → Fits recordSize h → hops h ≡ j → take j (drop 2 (recordOf recordSize h ++ cells)) ≡ behind h
 unfolding recordOf
 part-record j [] cells f e = absurd (omega (arith, f .some))
-part-record j (p ∷ h) cells f e = ap (take j) (append-assoc h (replicate (size - suc (suc (length h))) 0) cells) ∙ take-at h (replicate (size - suc (suc (length h))) 0 ++ cells) j e
+part-record j (p ∷ h) cells f e = ap (take j) (append-assoc h (replicate (recordSize - suc (suc (length h))) 0) cells) ∙ take-at h (replicate (recordSize - suc (suc (length h))) 0 ++ cells) j e
 
-rests-cells : (j : ℕ) (a b c : List (List ℕ)) (cells : List ℕ) → ((h : List ℕ) → h ∈ a → Fits size h) → ((h : List ℕ) → h ∈ b → Fits size h × (hops h ≡ j))
-    → restsOf (cellsOf size (a ++ (b ++ c)) ++ cells) j (length a) (length b) ≡ map behind b
+rests-cells : (j : ℕ) (a b c : List (List ℕ)) (cells : List ℕ) → ((h : List ℕ) → h ∈ a → Fits recordSize h) → ((h : List ℕ) → h ∈ b → Fits recordSize h × (hops h ≡ j))
+    → restsOf (cellsOf recordSize (a ++ (b ++ c)) ++ cells) j (length a) (length b) ≡ map behind b
 unfolding restsOf cellsOf
 rests-cells j a [] c cells f i = refl
 rests-cells j a (h ∷ b) c cells f i =
     let x = i h (List·Memᴰ·head refl) in
-    let whole : cellsOf size (a ++ (h ∷ (b ++ c))) ++ cells ≡ cellsOf size a ++ (recordOf size h ++ (cellsOf size (b ++ c) ++ cells)) =
-    ap (λ (l : List ℕ). l ++ cells) (cellsOf-append size a (h ∷ (b ++ c))) ∙ append-assoc (cellsOf size a) (recordOf size h ++ cellsOf size (b ++ c)) cells ∙ ap (λ (l : List ℕ). cellsOf size a ++ l) (append-assoc (recordOf size h) (cellsOf size (b ++ c)) cells) in
-    let n : length a * size + 2 ≡ length (cellsOf size a) + 2 = omega (arith, length-cellsOf size a f) in
-    let front : restOf (cellsOf size (a ++ (h ∷ (b ++ c))) ++ cells) j (length a) ≡ behind h =
-    ap (λ (l : List ℕ). take j (drop (length a * size + 2) l)) whole
-    ∙ ap (λ (m : ℕ). take j (drop m (cellsOf size a ++ (recordOf size h ++ (cellsOf size (b ++ c) ++ cells))))) n
-    ∙ ap (take j) (drop-append-add (cellsOf size a) (recordOf size h ++ (cellsOf size (b ++ c) ++ cells)) 2)
-    ∙ part-record j h (cellsOf size (b ++ c) ++ cells) (x .0) (x .1) in
+    let whole : cellsOf recordSize (a ++ (h ∷ (b ++ c))) ++ cells ≡ cellsOf recordSize a ++ (recordOf recordSize h ++ (cellsOf recordSize (b ++ c) ++ cells)) =
+    ap (λ (l : List ℕ). l ++ cells) (cellsOf-append recordSize a (h ∷ (b ++ c))) ∙ append-assoc (cellsOf recordSize a) (recordOf recordSize h ++ cellsOf recordSize (b ++ c)) cells ∙ ap (λ (l : List ℕ). cellsOf recordSize a ++ l) (append-assoc (recordOf recordSize h) (cellsOf recordSize (b ++ c)) cells) in
+    let n : length a * recordSize + 2 ≡ length (cellsOf recordSize a) + 2 = omega (arith, length-cellsOf recordSize a f) in
+    let front : restOf (cellsOf recordSize (a ++ (h ∷ (b ++ c))) ++ cells) j (length a) ≡ behind h =
+    ap (λ (l : List ℕ). take j (drop (length a * recordSize + 2) l)) whole
+    ∙ ap (λ (m : ℕ). take j (drop m (cellsOf recordSize a ++ (recordOf recordSize h ++ (cellsOf recordSize (b ++ c) ++ cells))))) n
+    ∙ ap (take j) (drop-append-add (cellsOf recordSize a) (recordOf recordSize h ++ (cellsOf recordSize (b ++ c) ++ cells)) 2)
+    ∙ part-record j h (cellsOf recordSize (b ++ c) ++ cells) (x .0) (x .1) in
     let more : suc (length a) ≡ length (a ++ (h ∷ [])) = omega (arith, length-append a (h ∷ [])) in
-    let on = rests-cells j (a ++ (h ∷ [])) b c cells (λ d m. ⊎-elim (f d) (λ q. ⊎-elim (λ y. subst (λ z. Fits size z) (sym y) (x .0)) (λ y. absurd (List·Memᴰ·not-nil y)) (List·Memᴰ·cases-cons q)) (List·Memᴰ·append-cases a m)) (λ d m. i d (List·Memᴰ·tail m)) in
-    rw (front) (ap (_∷_ (behind h)) (ap (λ (m : ℕ). restsOf (cellsOf size (a ++ (h ∷ (b ++ c))) ++ cells) j m (length b)) more ∙ ap (λ (l : List (List ℕ)). restsOf (cellsOf size l ++ cells) j (length (a ++ (h ∷ []))) (length b)) (sym (append-snoc a h (b ++ c))) ∙ on))
+    let on = rests-cells j (a ++ (h ∷ [])) b c cells (λ d m. ⊎-elim (f d) (λ q. ⊎-elim (λ y. subst (λ z. Fits recordSize z) (sym y) (x .0)) (λ y. absurd (List·Memᴰ·not-nil y)) (List·Memᴰ·cases-cons q)) (List·Memᴰ·append-cases a m)) (λ d m. i d (List·Memᴰ·tail m)) in
+    rw (front) (ap (_∷_ (behind h)) (ap (λ (m : ℕ). restsOf (cellsOf recordSize (a ++ (h ∷ (b ++ c))) ++ cells) j m (length b)) more ∙ ap (λ (l : List (List ℕ)). restsOf (cellsOf recordSize l ++ cells) j (length (a ++ (h ∷ []))) (length b)) (sym (append-snoc a h (b ++ c))) ∙ on))
 
 -- each cell of a record is a person, as the hops and the zeros are
 in-zeros : (n x : ℕ) → x ∈ replicate n 0 → x ≡ 0
 in-zeros zero x m = absurd (List·Memᴰ·not-nil m)
 in-zeros (suc n) x m = ⊎-elim (λ e. e) (in-zeros n x) (List·Memᴰ·cases-cons m)
 
-record-people : (h : List ℕ) → Fits size h → ((x : ℕ) → x ∈ h → x < persons) → (x : ℕ) → x ∈ recordOf size h → x < persons
+record-people : (h : List ℕ) → Fits recordSize h → ((x : ℕ) → x ∈ h → x < persons) → (x : ℕ) → x ∈ recordOf recordSize h → x < persons
 unfolding recordOf
 record-people [] f p x m = absurd (omega (arith, f .some))
-record-people (q ∷ h) f p x m = ⊎-elim (λ e. omega (arith, e, f .room)) (λ i. ⊎-elim (p x) (λ z. omega (arith, in-zeros (size - suc (suc (length h))) x z)) (List·Memᴰ·append-cases (q ∷ h) i)) (List·Memᴰ·cases-cons m)
+record-people (q ∷ h) f p x m = ⊎-elim (λ e. omega (arith, e, f .room)) (λ i. ⊎-elim (p x) (λ z. omega (arith, in-zeros (recordSize - suc (suc (length h))) x z)) (List·Memᴰ·append-cases (q ∷ h) i)) (List·Memᴰ·cases-cons m)
 
-cells-people : (hs : List (List ℕ)) → ((h : List ℕ) → h ∈ hs → Fits size h × ((x : ℕ) → x ∈ h → x < persons)) → (x : ℕ) → x ∈ cellsOf size hs → x < persons
+cells-people : (hs : List (List ℕ)) → ((h : List ℕ) → h ∈ hs → Fits recordSize h × ((x : ℕ) → x ∈ h → x < persons)) → (x : ℕ) → x ∈ cellsOf recordSize hs → x < persons
 unfolding cellsOf
 cells-people [] f x m = absurd (List·Memᴰ·not-nil m)
 cells-people (h ∷ hs) f x m =
     let a = f h (List·Memᴰ·head refl) in
-    ⊎-elim (record-people h (a .0) (a .1) x) (cells-people hs (λ d i. f d (List·Memᴰ·tail i)) x) (List·Memᴰ·append-cases (recordOf size h) m)
+    ⊎-elim (record-people h (a .0) (a .1) x) (cells-people hs (λ d i. f d (List·Memᴰ·tail i)) x) (List·Memᴰ·append-cases (recordOf recordSize h) m)
 
 getD-in : (l : List ℕ) (c : ℕ) → c < length l → getD l c 0 ∈ l
 getD-in [] c h = absurd (omega arith)
@@ -192,13 +193,13 @@ module _ {rows targets : List ℕ} (k : Compact rows targets) (s t : ℕ) (from 
     (rights : ℕ → List (List ℕ)) (ends : (p : ℕ) → p < persons → rights p ≡ atEnd t p) (marks : List Bool) (marked : Marked marks (s ∷ [])) where
   -- those that start at p, without p
   abbrev rest-from : ℕ → ℕ → List (List ℕ)
-  rest-from j p = pick (eqb p s) [] (onward (graphOf rows targets) (λ q. eqb q t) j (p ∷ s ∷ []) p)
+  rest-from j p = cond (eqb p s) [] (onward (graphOf rows targets) (λ q. eqb q t) j (p ∷ s ∷ []) p)
 
   taking-half : (j p : ℕ) → p < persons → taking (graphOf rows targets) rights j marks p ≡ map (_∷_ p) (rest-from j p)
   unfolding among
   taking-half j p l = rw (marked .each p, following-onward k t rights ends j (set marks p true) (p ∷ s ∷ []) p (marked-more p l marked) l) (go (eqb p s))
     where
-      go : (b : Bool) → pick (pick b true false) [] (map (_∷_ p) (onward (graphOf rows targets) (λ q. eqb q t) j (p ∷ s ∷ []) p)) ≡ map (_∷_ p) (pick b [] (onward (graphOf rows targets) (λ q. eqb q t) j (p ∷ s ∷ []) p))
+      go : (b : Bool) → cond (cond b true false) [] (map (_∷_ p) (onward (graphOf rows targets) (λ q. eqb q t) j (p ∷ s ∷ []) p)) ≡ map (_∷_ p) (cond b [] (onward (graphOf rows targets) (λ q. eqb q t) j (p ∷ s ∷ []) p))
       go true = refl
       go false = refl
 
@@ -207,7 +208,7 @@ module _ {rows targets : List ℕ} (k : Compact rows targets) (s t : ℕ) (from 
       flatMap-same _ _ (personsBelow persons) (λ p m. go p (eqb p s))
       ∙ sym (halfChains-onward (graphOf rows targets) (k .rising) persons (low-persons k) s t ne to j)
     where
-      go : (p : ℕ) (b : Bool) → map (_∷_ p) (pick b [] (onward (graphOf rows targets) (λ q. eqb q t) j (p ∷ s ∷ []) p)) ≡ pick b [] (map (_∷_ p) (onward (graphOf rows targets) (λ q. eqb q t) j (p ∷ s ∷ []) p))
+      go : (p : ℕ) (b : Bool) → map (_∷_ p) (cond b [] (onward (graphOf rows targets) (λ q. eqb q t) j (p ∷ s ∷ []) p)) ≡ cond b [] (map (_∷_ p) (onward (graphOf rows targets) (λ q. eqb q t) j (p ∷ s ∷ []) p))
       go p true = refl
       go p false = refl
 
@@ -231,22 +232,22 @@ module _ {rows targets : List ℕ} (k : Compact rows targets) (s t : ℕ) (from 
   rest-hops : (j p : ℕ) (w : List ℕ) → w ∈ rest-from j p → length w ≡ j
   rest-hops j p w m = go (eqb p s) m
     where
-      go : (b : Bool) → w ∈ pick b [] (onward (graphOf rows targets) (λ q. eqb q t) j (p ∷ s ∷ []) p) → length w ≡ j
+      go : (b : Bool) → w ∈ cond b [] (onward (graphOf rows targets) (λ q. eqb q t) j (p ∷ s ∷ []) p) → length w ≡ j
       go true i = absurd (List·Memᴰ·not-nil i)
       go false i = onward-from (graphOf rows targets) (λ q. eqb q t) j (p ∷ s ∷ []) p i .exactly
 
-  module _ (asked : ℕ) (few : asked ≤ 8) where
+  module _ (asked : ℕ) (few : asked ≤ mostHops) where
     abbrev all : List (List ℕ)
     all = halves (graphOf rows targets) persons s t asked
 
-    pub all-fit : (h : List ℕ) → h ∈ all → Fits size h
-    all-fit h m = half-fits (graphOf rows targets) persons s t ne (low-persons k) asked size (omega arith) h m
+    pub all-fit : (h : List ℕ) → h ∈ all → Fits recordSize h
+    all-fit h m = half-fits (graphOf rows targets) persons s t ne (low-persons k) asked recordSize (omega arith) h m
 
-    all-people : (h : List ℕ) → h ∈ all → Fits size h × ((x : ℕ) → x ∈ h → x < persons)
+    all-people : (h : List ℕ) → h ∈ all → Fits recordSize h × ((x : ℕ) → x ∈ h → x < persons)
     all-people h m = let r = halves-exact (graphOf rows targets) persons s t ne (low-persons k) asked h .0 m .0 in (all-fit h m, half-people k to h (r .last) (r .linked))
 
     -- the half chains are written, and the index says how many stand before each place
-    module _ (working index : List ℕ) (room : length all * size ≤ length working) (wide : 5120 < length index)
+    module _ (working index : List ℕ) (room : length all * recordSize ≤ length working) (wide : placesAtMost < length index)
         (indexes : (place : ℕ) → place ≤ (asked / 2 + 1) * persons → getD index place 0 ≡ length (halvesBefore (graphOf rows targets) rights marks place)) where
       -- all of them, in front of a place, at it and behind it
       parted : (j p : ℕ) → j ≤ asked / 2 → p < persons → (rest : List (List ℕ)) × (all ≡ halvesBefore (graphOf rows targets) rights marks (placeOf j p) ++ (map (_∷_ p) (rest-from j p) ++ rest))
@@ -267,17 +268,17 @@ module _ {rows targets : List ℕ} (k : Compact rows targets) (s t : ℕ) (from 
           ∙ ap length (before-next (graphOf rows targets) rights marks (placeOf j p) ∙ ap (λ (x : List (List ℕ)). halvesBefore (graphOf rows targets) rights marks (placeOf j p) ++ x) (at-place j p l))
           ∙ length-append (halvesBefore (graphOf rows targets) rights marks (placeOf j p)) (map (_∷_ p) (rest-from j p))
 
-      pub rights-index : (j : ℕ) → j ≤ asked / 2 → (p : ℕ) → p < persons → rightsOf (written size all working) index j p ≡ startingAt (halfChains (graphOf rows targets) persons s t j) p
+      pub rights-index : (j : ℕ) → j ≤ asked / 2 → (p : ℕ) → p < persons → rightsOf (written recordSize all working) index j p ≡ startingAt (halfChains (graphOf rows targets) persons s t j) p
       unfolding written
       rights-index j h p l =
           let a = halvesBefore (graphOf rows targets) rights marks (placeOf j p) in
           let b = map (_∷_ p) (rest-from j p) in
           let q = parted j p h l in
           let n : getD index (placeOf j p + 1) 0 - getD index (placeOf j p) 0 ≡ length b = omega (arith, first-index j p h l, next-index j p h l) in
-          ap (λ (m : ℕ). restsOf (written size all working) j (getD index (placeOf j p) 0) m) n
-          ∙ ap (λ (m : ℕ). restsOf (written size all working) j m (length b)) (first-index j p h l)
-          ∙ ap (λ (x : List (List ℕ)). restsOf (cellsOf size x ++ drop (length all * size) working) j (length a) (length b)) (q .1)
-          ∙ rests-cells j a b (q .0) (drop (length all * size) working)
+          ap (λ (m : ℕ). restsOf (written recordSize all working) j (getD index (placeOf j p) 0) m) n
+          ∙ ap (λ (m : ℕ). restsOf (written recordSize all working) j m (length b)) (first-index j p h l)
+          ∙ ap (λ (x : List (List ℕ)). restsOf (cellsOf recordSize x ++ drop (length all * recordSize) working) j (length a) (length b)) (q .1)
+          ∙ rests-cells j a b (q .0) (drop (length all * recordSize) working)
           (λ d m. all-fit d (subst (λ x. d ∈ x) (sym (q .1)) (Memᴰ·append-left (b ++ q .0) m)))
           (λ d m. (all-fit d (subst (λ x. d ∈ x) (sym (q .1)) (Memᴰ·append-right a (Memᴰ·append-left (q .0) m))), let r = Memᴰ·of-map (_∷_ p) (rest-from j p) m in subst (λ x. hops x ≡ j) (r .2) (rest-hops j p (r .0) (r .1))))
           ∙ map-map behind (_∷_ p) (rest-from j p)
@@ -288,18 +289,18 @@ module _ {rows targets : List ℕ} (k : Compact rows targets) (s t : ℕ) (from 
           same [] = refl
           same (w ∷ ws) = ap (_∷_ w) (same ws)
 
-      written-long : length (written size all working) ≡ length working
-      written-long = length-written size all working all-fit room
+      written-long : length (written recordSize all working) ≡ length working
+      written-long = length-written recordSize all working all-fit room
 
-      pub indexed-halves : (j : ℕ) → j ≤ asked / 2 → Indexed (written size all working) index j
+      pub indexed-halves : (j : ℕ) → j ≤ asked / 2 → Indexed (written recordSize all working) index j
       unfolding written
       indexed-halves j h = record {
         within = omega (arith, wide);
         rise = λ p l. omega (arith, first-index j p h l, next-index j p h l);
         there = λ p l. omega (arith, part-all p l, room, written-long, next-index j p h l);
         people = λ p l c i.
-            let inside : c < length (cellsOf size all) = omega (arith, length-cellsOf size all all-fit, part-all p l, next-index j p h l) in
-            rw (List·getD-append (cellsOf size all) (drop (length all * size) working) 0 c inside) (cells-people all all-people (getD (cellsOf size all) c 0) (getD-in (cellsOf size all) c inside));
+            let inside : c < length (cellsOf recordSize all) = omega (arith, length-cellsOf recordSize all all-fit, part-all p l, next-index j p h l) in
+            rw (List·getD-append (cellsOf recordSize all) (drop (length all * recordSize) working) 0 c inside) (cells-people all all-people (getD (cellsOf recordSize all) c 0) (getD-in (cellsOf recordSize all) c inside));
       }
         where
           part-all : (p : ℕ) → p < persons → length (halvesBefore (graphOf rows targets) rights marks (placeOf j p)) + length (map (_∷_ p) (rest-from j p)) ≤ length all

@@ -7,10 +7,11 @@ use lib.ListN.{length, getD, set, take, drop, length-set, length-drop}
 use lib.Seq.{slice, slice-cons, slice-empty, set-set, set-getD, drop-cons}
 use native.Mathlib.Omega.{arith}
 use native.Mathlib.Numerals.{add-one, sub-one}
-use Rattle.ways.specs.Graph.{Graph, pick, keep}
+use Rattle.ways.specs.Graph.{Graph, keep}
+use Rattle.ways.specs.Sizes.{recordSize}
 use Rattle.ways.proofs.Members.{keep-append}
 use Rattle.compact.specs.Compact.{persons, graphOf, Compact}
-use Rattle.join.specs.Pages.{size, Page, page, emit, emits, part, recordWith, Room, Handed}
+use Rattle.join.specs.Pages.{Page, page, emit, emits, part, recordWith, Room, Handed}
 use Rattle.join.specs.Walks.{clear, Persons, restOf, restsOf, placeOf, rightsOf, Indexed, Open, handed, Pair, Paired, Ready, Arrived, following, taking, Going, Extended}
 use Rattle.join.specs.declared.extend.Walk.{Walk}
 use Rattle.join.specs.declared.extend.Found.{Found}
@@ -57,17 +58,17 @@ module _ {halves : List ℕ} {marks : List Bool} {from count i : ℕ} (k : Perso
 -- ---- `pair`
 
 module _ {halves : List ℕ} {marks : List Bool} {out chain : List ℕ} {w : Walk} {half : ℕ} {found : Found} (k : Pair halves marks out chain w half found) where
-  pub pair-persons : Persons halves marks (half * size + 2) (w .rest)
+  pub pair-persons : Persons halves marks (half * recordSize + 2) (w .rest)
   pair-persons = record { wide = k .opens .wide; there = omega (arith, k .there, k .opens .short, k .opens .some); people = λ c h. k .people c (omega (arith, k .opens .short, k .opens .some, h)) }
 
-  pub pair-room : Room halves out chain w (half * size + 2) found
+  pub pair-room : Room halves out chain w (half * recordSize + 2) found
   pair-room = record { room = k .opens .room; there = pair-persons .there; long = k .opens .long; some = k .opens .some; short = omega (arith, k .opens .short); none = k .opens .none }
 
   pub pair-shared : false ≡ clear marks (restOf halves (w .rest) half) → Paired halves marks out out chain w half found found
   unfolding keep emits
   pair-shared e = record { right = rw (← e) }
 
-  pub pair-joined : {out′ : List ℕ} {r : Found} → true ≡ clear marks (restOf halves (w .rest) half) → Handed halves out out′ chain w (half * size + 2) found r → Paired halves marks out out′ chain w half found r
+  pub pair-joined : {out′ : List ℕ} {r : Found} → true ≡ clear marks (restOf halves (w .rest) half) → Handed halves out out′ chain w (half * recordSize + 2) found r → Paired halves marks out out′ chain w half found r
   unfolding keep emits
   pair-joined e h = record { right = rw (← e) (h .right) }
 

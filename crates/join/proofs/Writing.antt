@@ -10,8 +10,8 @@ use native.Mathlib.Omega.{arith}
 use native.Mathlib.Nat.{zero-add, suc-add, add-zero, add-assoc, le-refl}
 use native.Mathlib.Numerals.{add-one}
 use borrow.Author.Tests.{eq-eqb, ne-eqb, lt-ltb, le-ltb}
-use Rattle.ways.specs.Graph.{pick}
-use Rattle.join.specs.Pages.{size, Page, page, emit, emits, part, recordWith, Behind, Room, Handed}
+use Rattle.ways.specs.Sizes.{recordSize}
+use Rattle.join.specs.Pages.{Page, page, emit, emits, part, recordWith, Behind, Room, Handed}
 use Rattle.join.specs.declared.extend.Walk.{Walk}
 use Rattle.join.specs.declared.extend.Found.{Found}
 
@@ -77,18 +77,18 @@ part-long : (cells : List ℕ) (from count : ℕ) → from + count ≤ length ce
 part-long cells from count h = length-take-le count (drop from cells) (rw length-drop (omega arith))
 
 -- the chain's cells, those of the half chain behind them, and the hops
-put-record : (out : List ℕ) (at : ℕ) (chain : List ℕ) (len : ℕ) (halves : List ℕ) (from rest : ℕ) → at + size ≤ length out → length chain ≡ size → from + rest ≤ length halves → len + rest < size
-    → set (paste (paste out at chain size) (at + (len + 1)) (drop from halves) rest) at (len + rest - 1) ≡ paste out at (recordWith chain len (part halves from rest)) size
+put-record : (out : List ℕ) (at : ℕ) (chain : List ℕ) (len : ℕ) (halves : List ℕ) (from rest : ℕ) → at + recordSize ≤ length out → length chain ≡ recordSize → from + rest ≤ length halves → len + rest < recordSize
+    → set (paste (paste out at chain recordSize) (at + (len + 1)) (drop from halves) rest) at (len + rest - 1) ≡ paste out at (recordWith chain len (part halves from rest)) recordSize
 unfolding recordWith
 put-record out at chain len halves from rest fits long there short =
     let n : length (part halves from rest) ≡ rest = part-long halves from rest there in
     let longer : rest ≤ length (drop from halves) = rw length-drop (omega arith) in
     let whole = paste chain (len + 1) (drop from halves) rest in
-    let size-whole : length whole ≡ size = length-paste chain (len + 1) (drop from halves) rest (omega arith) longer ∙ long in
+    let size-whole : length whole ≡ recordSize = length-paste chain (len + 1) (drop from halves) rest (omega arith) longer ∙ long in
     let same : paste chain (len + 1) (part halves from rest) rest ≡ whole = ap (λ (r : List ℕ). take (len + 1) chain ++ r ++ drop (len + 1 + rest) chain) (take-take rest rest (drop from halves) (le-refl rest)) in
-    ap (λ (o : List ℕ). set o at (len + rest - 1)) (paste-behind out at chain size (len + 1) (drop from halves) rest fits (omega arith) (omega arith) longer)
-    ∙ ap (λ (i : ℕ). set (paste out at whole size) i (len + rest - 1)) (sym (add-zero at))
-    ∙ paste-set out at whole size 0 (len + rest - 1) (omega arith) (omega (arith, size-whole)) (omega arith)
+    ap (λ (o : List ℕ). set o at (len + rest - 1)) (paste-behind out at chain recordSize (len + 1) (drop from halves) rest fits (omega arith) (omega arith) longer)
+    ∙ ap (λ (i : ℕ). set (paste out at whole recordSize) i (len + rest - 1)) (sym (add-zero at))
+    ∙ paste-set out at whole recordSize 0 (len + rest - 1) (omega arith) (omega (arith, size-whole)) (omega arith)
     ∙ rw (n, same)
 
 module _ {halves out chain : List ℕ} {w : Walk} {from : ℕ} {found : Found} (k : Room halves out chain w from found) where
@@ -100,20 +100,20 @@ module _ {halves out chain : List ℕ} {w : Walk} {from : ℕ} {found : Found} (
   pub hand-count : found .count < w .room → w .writes ≡ 0 → Handed halves out out chain w from found (record { count = found .count + 1; more = 0 })
   hand-count h z = record { right = rw (eq-eqb (found .more) 0 (k .none), lt-ltb (found .count) (w .room) h, eq-eqb (w .writes) 0 z) }
 
-  pub hand-fits : found .count < w .room → found .count * size + size ≤ length out
+  pub hand-fits : found .count < w .room → found .count * recordSize + recordSize ≤ length out
   hand-fits h = omega (arith, k .room)
 
-  pub hand-behind : {out′ : List ℕ} → found .count < w .room → out′ ≡ paste out (found .count * size) chain size → Behind out′ (found .count * size + (w .len + 1)) halves from (w .rest)
+  pub hand-behind : {out′ : List ℕ} → found .count < w .room → out′ ≡ paste out (found .count * recordSize) chain recordSize → Behind out′ (found .count * recordSize + (w .len + 1)) halves from (w .rest)
   hand-behind {out′} h e =
-      let long : length out′ ≡ length out = ap length e ∙ length-paste out (found .count * size) chain size (hand-fits h) (omega (arith, k .long)) in
+      let long : length out′ ≡ length out = ap length e ∙ length-paste out (found .count * recordSize) chain recordSize (hand-fits h) (omega (arith, k .long)) in
       record { fits = omega (arith, long, hand-fits h, k .short); there = k .there }
 
   -- written
-  pub hand-put : {out′ out″ : List ℕ} → found .count < w .room → (w .writes ≡ 0 → ⊥) → out′ ≡ paste out (found .count * size) chain size
-      → out″ ≡ paste out′ (found .count * size + (w .len + 1)) (drop from halves) (w .rest)
-      → Handed halves out (set out″ (found .count * size) (w .len + w .rest - 1)) chain w from found (record { count = found .count + 1; more = 0 })
+  pub hand-put : {out′ out″ : List ℕ} → found .count < w .room → (w .writes ≡ 0 → ⊥) → out′ ≡ paste out (found .count * recordSize) chain recordSize
+      → out″ ≡ paste out′ (found .count * recordSize + (w .len + 1)) (drop from halves) (w .rest)
+      → Handed halves out (set out″ (found .count * recordSize) (w .len + w .rest - 1)) chain w from found (record { count = found .count + 1; more = 0 })
   hand-put h n e f = record {
-    right = rw (eq-eqb (found .more) 0 (k .none), lt-ltb (found .count) (w .room) h, ne-eqb (w .writes) 0 n, f, e, put-record out (found .count * size) chain (w .len) halves from (w .rest) (hand-fits h) (k .long) (k .there) (k .short));
+    right = rw (eq-eqb (found .more) 0 (k .none), lt-ltb (found .count) (w .room) h, ne-eqb (w .writes) 0 n, f, e, put-record out (found .count * recordSize) chain (w .len) halves from (w .rest) (hand-fits h) (k .long) (k .there) (k .short));
   }
 
 -- the record with one more behind the chain so far

@@ -9,11 +9,10 @@ use Rattle.linkfile.specs.Verdict.{Fault, sound, fault}
 use Rattle.ways.specs.Records.{written}
 use Rattle.ways.specs.Halves.{halves}
 use Rattle.ways.specs.ByHops.{byHops}
+use Rattle.ways.specs.Sizes.{recordSize, mostHops}
 use Rattle.compact.specs.Compact.{persons, graphOf, Compact}
 use Rattle.question.specs.declared.Question.{Question}
-use Rattle.question.specs.Asked.{mostHops}
 use Rattle.portion.specs.declared.Answer as code
-use Rattle.portion.specs.Listing.{recordSize}
 use Rattle.portion.specs.Answers.{answerSaid, answerFor, cellsFor}
 use Rattle.join.specs.Lists.{halvesFor, chainsFor, halvesFault, joinFault, firstOnes, allFit}
 

@@ -9,10 +9,10 @@ use Rattle.linkfile.specs.Verdict.{Fault, sound, unless, firstOf}
 use Rattle.ways.specs.Records.{roomOf}
 use Rattle.ways.specs.ByHops.{byHops}
 use Rattle.ways.specs.Halves.{halves, halvesFit}
+use Rattle.ways.specs.Sizes.{recordSize}
 use Rattle.question.specs.declared.Question.{Question}
 use Rattle.question.specs.Asked.{askedFault}
 use Rattle.question.specs.Admission.{next}
-use Rattle.portion.specs.Listing.{recordSize}
 
 -- the half chains: "the simple admitted sequences of 0 to k/2 hops (rounded down) ending at To and not visiting From, also
 -- (To) alone", shorter first, then in dictionary order
@@ -25,11 +25,11 @@ chainsFor file q = byHops (next file q) (q .from) (q .to) (q .hops)
 
 -- 16: output under ten cells
 abbrev pub roomFault : ℕ → ℕ → Fault → Fault
-roomFault size cells after = unless (leb size cells) 16 0 after
+roomFault recordSize cells after = unless (leb recordSize cells) 16 0 after
 
 -- 18: working cells hold fewer records than there are half chains
 abbrev pub halvesFault : ℕ → ℕ → List (List ℕ) → Fault
-halvesFault size cells halfChains = unless (halvesFit size cells halfChains) 18 0 sound
+halvesFault recordSize cells halfChains = unless (halvesFit recordSize cells halfChains) 18 0 sound
 
 -- the first refusal of a join: 1 to 9, 10 to 15, 16, 18
 abbrev pub joinFault : List ℕ → Question → List ℕ → List ℕ → Fault

@@ -1,17 +1,14 @@
 -- What is handed over: records one behind the other, while there is room. Definitions only.
 use mathlib.Core.Path.{_≡_}
+use mathlib.Core.Bool.{cond}
 use mathlib.Core.List.{List, [], _∷_}
 use Prim.Native.Nat.{ℕ, _+_, _-_, _*_, _≤_, _<_}
 use lib.ListN.{length, set, take, drop}
 use lib.Dec.{ltb, eqb}
 use lib.Seq.{paste}
-use Rattle.ways.specs.Graph.{pick}
+use Rattle.ways.specs.Sizes.{recordSize}
 use Rattle.join.specs.declared.extend.Walk.{Walk}
 use Rattle.join.specs.declared.extend.Found.{Found}
-
--- the cells of a chain record
-abbrev pub size : ℕ
-size = 10
 
 -- so many chains were handed over, whether there was one more (1), and the cells
 pub record Page : Type 0 where
@@ -25,9 +22,9 @@ page f cells = record { count = f .count; more = f .more; cells = cells }
 -- one more record: counted if there is room, and written unless only counting (0); else noted; and nothing once one was noted
 abbrev pub emit : ℕ → ℕ → Page → List ℕ → Page
 emit writes room s r =
-    pick (eqb (s .more) 0)
-    (pick (ltb (s .count) room)
-    (record { count = s .count + 1; more = 0; cells = pick (eqb writes 0) (s .cells) (paste (s .cells) (s .count * size) r size) })
+    cond (eqb (s .more) 0)
+    (cond (ltb (s .count) room)
+    (record { count = s .count + 1; more = 0; cells = cond (eqb writes 0) (s .cells) (paste (s .cells) (s .count * recordSize) r recordSize) })
     (record { count = s .count; more = 1; cells = s .cells }))
     s
 
@@ -54,11 +51,11 @@ Follows out out′ at halves from count = out′ ≡ paste out at (drop from hal
 
 -- there are cells for the records, and in a record for the hops; and nothing is noted yet
 pub record Room (halves out chain : List ℕ) (w : Walk) (from : ℕ) (found : Found) : Type 0 where
-  pub room : w .room * size ≤ length out
+  pub room : w .room * recordSize ≤ length out
   pub there : from + w .rest ≤ length halves
-  pub long : length chain ≡ size
+  pub long : length chain ≡ recordSize
   pub some : 1 ≤ w .len
-  pub short : w .len + w .rest < size
+  pub short : w .len + w .rest < recordSize
   pub none : found .more ≡ 0
 
 -- what handing over does: the record of the chain with so many persons of the half chain behind it

@@ -7,9 +7,9 @@ use lib.ListN.{length, getD, set, replicate}
 use Rattle.ways.specs.Graph.{Graph}
 use Rattle.ways.specs.Halves.{personsBelow}
 use Rattle.ways.specs.Join.{leftHops, rightHops}
-use Rattle.question.specs.Asked.{mostHops}
+use Rattle.ways.specs.Sizes.{recordSize, mostHops}
 use Rattle.compact.specs.Compact.{persons, graphOf, Compact}
-use Rattle.join.specs.Pages.{size, Page, page, emits, recordWith}
+use Rattle.join.specs.Pages.{Page, page, emits, recordWith}
 use Rattle.join.specs.Walks.{rightsOf, Indexed, following, taking}
 use Rattle.join.specs.declared.extend.Walk.{Walk}
 use Rattle.join.specs.declared.extend.Found.{Found}
@@ -26,7 +26,7 @@ pub record Ended (ending : List ℕ) (to : ℕ) : Type 0 where
 
 -- a chain that nobody stands in yet
 abbrev pub blank : List ℕ
-blank = replicate size 0
+blank = replicate recordSize 0
 
 -- nothing handed over, nothing noted
 abbrev pub nothing : Found
@@ -38,9 +38,9 @@ pub record Begin (rows targets only ending : List ℕ) (marks : List Bool) (work
   pub indexed : Indexed only ending (w .rest)
   pub place : p < persons
   pub wide : length marks ≡ persons
-  pub room : w .room * size ≤ length working
+  pub room : w .room * recordSize ≤ length working
   pub first : w .len ≡ 1
-  pub short : w .left + w .rest + 1 < size
+  pub short : w .left + w .rest + 1 < recordSize
   pub none : found .more ≡ 0
 
 pub record Begun (rows targets only ending : List ℕ) (marks marks′ : List Bool) (working working′ : List ℕ) (w : Walk) (p : ℕ) (found found′ : Found) : Type 0 where
@@ -55,16 +55,20 @@ halvesAt g rights marks place = taking g rights (place / persons) marks (place %
 abbrev pub halvesBefore : Graph → (ℕ → List (List ℕ)) → List Bool → ℕ → List (List ℕ)
 halvesBefore g rights marks place = flatMap (halvesAt g rights marks) (personsBelow place)
 
+-- the places of the index: "0 to k/2 hops", and each first person
+abbrev pub placesAtMost : ℕ
+placesAtMost = (mostHops / 2 + 1) * persons
+
 pub record Shelve (rows targets only ending : List ℕ) (marks : List Bool) (index working : List ℕ) (writes places : ℕ) : Type 0 where
   pub graph : Compact rows targets
   pub indexed : Indexed only ending 0
   pub wide : length marks ≡ persons
   pub within : places < length index
-  pub few : places ≤ 5120
+  pub few : places ≤ placesAtMost
 
 pub record Shelved (rows targets only ending : List ℕ) (marks marks′ : List Bool) (index′ working working′ : List ℕ) (writes places : ℕ) (found : Found) : Type 0 where
   pub same : marks′ ≡ marks
-  pub right : page found working′ ≡ emits writes (length working / size) (page nothing working) (map (recordWith blank 0) (halvesBefore (graphOf rows targets) (rightsOf only ending 0) marks places))
+  pub right : page found working′ ≡ emits writes (length working / recordSize) (page nothing working) (map (recordWith blank 0) (halvesBefore (graphOf rows targets) (rightsOf only ending 0) marks places))
   pub indexes : found .more ≡ 0 → (place : ℕ) → place ≤ places → getD index′ place 0 ≡ length (halvesBefore (graphOf rows targets) (rightsOf only ending 0) marks place)
 
 -- the lists of 1, 2, .. up to k hops, one after the other
@@ -85,4 +89,4 @@ pub record Gather (rows targets halves index : List ℕ) (marks : List Bool) (ou
 
 pub record Gathered (rows targets halves index : List ℕ) (marks marks′ : List Bool) (out out′ : List ℕ) (from hops : ℕ) (found : Found) : Type 0 where
   pub same : marks′ ≡ marks
-  pub right : page found out′ ≡ emits 1 (length out / size) (page nothing out) (map (recordWith (set blank 1 from) 1) (fromOne (waysOf (graphOf rows targets) halves index marks from) hops))
+  pub right : page found out′ ≡ emits 1 (length out / recordSize) (page nothing out) (map (recordWith (set blank 1 from) 1) (fromOne (waysOf (graphOf rows targets) halves index marks from) hops))

@@ -1,19 +1,20 @@
 -- What extending a chain and pairing it with its right halves ask, and what they do. Definitions only.
 use mathlib.Core.Path.{_≡_}
-use mathlib.Core.Bool.{Bool, true, false}
+use mathlib.Core.Bool.{Bool, true, false, cond}
 use mathlib.Core.List.{List, [], _∷_, map, flatMap}
 use Prim.Native.Nat.{ℕ, zero, suc, _+_, _-_, _*_, _≤_, _<_}
 use lib.ListN.{length, getD, set}
-use Rattle.ways.specs.Graph.{Graph, pick, keep}
+use Rattle.ways.specs.Graph.{Graph, keep}
+use Rattle.ways.specs.Sizes.{recordSize}
 use Rattle.compact.specs.Compact.{persons, graphOf, Compact}
-use Rattle.join.specs.Pages.{size, Page, page, emits, part, recordWith}
+use Rattle.join.specs.Pages.{Page, page, emits, part, recordWith}
 use Rattle.join.specs.declared.extend.Walk.{Walk}
 use Rattle.join.specs.declared.extend.Found.{Found}
 
 -- whether nobody of the persons is marked
 unfoldable pub clear : List Bool → List ℕ → Bool
 clear marks [] = true
-clear marks (v ∷ w) = pick (getD marks v false) false (clear marks w)
+clear marks (v ∷ w) = cond (getD marks v false) false (clear marks w)
 
 -- cells that are persons, and a mark for each person
 pub record Persons (halves : List ℕ) (marks : List Bool) (from count : ℕ) : Type 0 where
@@ -23,7 +24,7 @@ pub record Persons (halves : List ℕ) (marks : List Bool) (from count : ℕ) : 
 
 -- the persons of a right half behind its first, by the number of its record
 abbrev pub restOf : List ℕ → ℕ → ℕ → List ℕ
-restOf halves rest half = part halves (half * size + 2) rest
+restOf halves rest half = part halves (half * recordSize + 2) rest
 
 -- those of so many right halves, from one on
 unfoldable pub restsOf : List ℕ → ℕ → ℕ → ℕ → List (List ℕ)
@@ -42,16 +43,16 @@ rightsOf halves index rest p = restsOf halves rest (getD index (placeOf rest p) 
 pub record Indexed (halves index : List ℕ) (rest : ℕ) : Type 0 where
   pub within : rest * persons + persons < length index
   pub rise : (p : ℕ) → p < persons → getD index (placeOf rest p) 0 ≤ getD index (placeOf rest p + 1) 0
-  pub there : (p : ℕ) → p < persons → getD index (placeOf rest p + 1) 0 * size ≤ length halves
-  pub people : (p : ℕ) → p < persons → (c : ℕ) → c < getD index (placeOf rest p + 1) 0 * size → getD halves c 0 < persons
+  pub there : (p : ℕ) → p < persons → getD index (placeOf rest p + 1) 0 * recordSize ≤ length halves
+  pub people : (p : ℕ) → p < persons → (c : ℕ) → c < getD index (placeOf rest p + 1) 0 * recordSize → getD halves c 0 < persons
 
 -- cells for the records and for the hops of a chain that is whole, a mark for each person, and nothing noted yet
 pub record Open (marks : List Bool) (out chain : List ℕ) (w : Walk) (found : Found) : Type 0 where
   pub wide : length marks ≡ persons
-  pub room : w .room * size ≤ length out
-  pub long : length chain ≡ size
+  pub room : w .room * recordSize ≤ length out
+  pub long : length chain ≡ recordSize
   pub some : 1 ≤ w .len
-  pub short : w .len + w .left + w .rest < size
+  pub short : w .len + w .left + w .rest < recordSize
   pub none : found .more ≡ 0
 
 -- the records of the chain so far with each of the ways on behind it
@@ -61,8 +62,8 @@ handed chain w s ws = emits (w .writes) (w .room) s (map (recordWith chain (w .l
 -- one right half
 pub record Pair (halves : List ℕ) (marks : List Bool) (out chain : List ℕ) (w : Walk) (half : ℕ) (found : Found) : Type 0 where
   pub opens : Open marks out chain w found
-  pub there : half * size + size ≤ length halves
-  pub people : (c : ℕ) → c < half * size + size → getD halves c 0 < persons
+  pub there : half * recordSize + recordSize ≤ length halves
+  pub people : (c : ℕ) → c < half * recordSize + recordSize → getD halves c 0 < persons
 
 pub record Paired (halves : List ℕ) (marks : List Bool) (out out′ chain : List ℕ) (w : Walk) (half : ℕ) (found found′ : Found) : Type 0 where
   pub right : page found′ out′ ≡ handed chain w (page found out) (keep (clear marks) (restOf halves (w .rest) half ∷ []))
@@ -79,11 +80,11 @@ pub record Arrived (halves index : List ℕ) (marks : List Bool) (out out′ cha
 -- the ways on from p, who stands last: so many hops past nobody marked, and then a right half that nobody marked stands in
 unfoldable pub following : Graph → (ℕ → List (List ℕ)) → ℕ → List Bool → ℕ → List (List ℕ)
 following g rights zero marks p = keep (clear marks) (rights p)
-following g rights (suc i) marks p = flatMap (λ v. pick (getD marks v false) [] (map (_∷_ v) (following g rights i (set marks v true) v))) (g p)
+following g rights (suc i) marks p = flatMap (λ v. cond (getD marks v false) [] (map (_∷_ v) (following g rights i (set marks v true) v))) (g p)
 
 -- the ways on whose next person is v
 abbrev pub taking : Graph → (ℕ → List (List ℕ)) → ℕ → List Bool → ℕ → List (List ℕ)
-taking g rights i marks v = pick (getD marks v false) [] (map (_∷_ v) (following g rights i (set marks v true) v))
+taking g rights i marks v = cond (getD marks v false) [] (map (_∷_ v) (following g rights i (set marks v true) v))
 
 -- extending
 pub record Going (rows targets halves index : List ℕ) (marks : List Bool) (out chain : List ℕ) (w : Walk) (at : ℕ) (found : Found) : Type 0 where

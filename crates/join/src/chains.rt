@@ -1,11 +1,11 @@
 // The chains: of 1, 2, .. hops, by their left halves, each with its right halves.
 ghost use Rattle.join.specs.Shelf.{Gather, Gathered};
-use crate::RECORD;
 use crate::extend::Found;
 use crate::extend::Walk;
 use compact::LINKS;
 use compact::PERSONS;
 use compact::STARTS;
+use ways::RECORD;
 
 // Hands over the chains from `from` of at most `hops` hops, shorter first, while there is room.
 pub fn gather(

@@ -1,10 +1,10 @@
 // The recursion: a simple sequence is extended by exactly so many hops towards To, and then meets its right halves.
 // A half chain is such a sequence too: the right half that it meets is (To) alone.
 ghost use Rattle.join.specs.Walks.{Going, Extended};
-use crate::RECORD;
 use compact::LINKS;
 use compact::PERSONS;
 use compact::STARTS;
+use ways::RECORD;
 
 // The plain numbers of a place in the recursion. No bool, so that there is no padding: it is copied with each step.
 pub struct Walk {

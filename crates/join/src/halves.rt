@@ -1,11 +1,11 @@
 // The half chains, from each number of hops and each first person in turn: counted, or written with the index of them.
 ghost use Rattle.join.specs.Shelf.{Lone, Ended, Begin, Begun, Shelve, Shelved};
-use crate::RECORD;
 use crate::extend::Found;
 use crate::extend::Walk;
 use compact::LINKS;
 use compact::PERSONS;
 use compact::STARTS;
+use ways::RECORD;
 
 // What the half chains are gone through for: to be counted, or to be written.
 pub const COUNT: usize = 0;

@@ -16,14 +16,11 @@ use compact::STARTS;
 use linkfile::Fault;
 use portion::Answer;
 use question::Question;
+use ways::HOPS;
+use ways::RECORD;
 
-// A chain record has ten cells: the hops, the persons, zeros.
-pub const RECORD: usize = 10;
-
-// A chain has at most eight hops, and a half chain at most half of them.
-pub const HOPS: usize = 8;
-
-// The index of the half chains has a place for each number of hops and each first person, and an end.
+// The index of the half chains, which have at most half the hops, has a place for each number of hops and each first person, and
+// an end.
 pub const INDEX: usize = (HOPS / 2 + 1) * PERSONS + 1;
 
 // The join over the compact graph: the half chains are counted before any cell is written.

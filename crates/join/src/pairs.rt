@@ -2,10 +2,10 @@
 ghost use mathlib.Core.Path.{_≡_};
 ghost use Rattle.join.specs.Pages.{part};
 ghost use Rattle.join.specs.Walks.{clear, Persons, Pair, Paired, Ready, Arrived};
-use crate::RECORD;
 use crate::extend::Found;
 use crate::extend::Walk;
 use compact::PERSONS;
+use ways::RECORD;
 
 // Whether nobody of the right half, whose cells behind the middle person begin at `from`, stands in the left half.
 fn apart(halves: &[u32], marks: &[bool; PERSONS], from: usize, count: usize) -> bool

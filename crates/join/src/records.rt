@@ -3,15 +3,16 @@ ghost use mathlib.Core.Path.{_≡_};
 ghost use Prim.Native.Nat.{_+_, _≤_};
 ghost use lib.ListN.{length};
 ghost use lib.Seq.{paste};
-ghost use Rattle.join.specs.Pages.{size, Behind, Follows, Room, Handed};
-use crate::RECORD;
+ghost use Rattle.ways.specs.Sizes.{recordSize};
+ghost use Rattle.join.specs.Pages.{Behind, Follows, Room, Handed};
 use crate::extend::Found;
 use crate::extend::Walk;
+use ways::RECORD;
 
 // Copies the cells of the chain to `out`, from cell `at` on.
 fn put(out: &mut [u32], at: usize, chain: [u32; RECORD])
-    requires { ⌜ at + size ≤ length (now out) ⌝ }
-    ensures { λ _. ⌜ now (out .exit) ≡ paste (now (out .entry)) at chain size ⌝ }
+    requires { ⌜ at + recordSize ≤ length (now out) ⌝ }
+    ensures { λ _. ⌜ now (out .exit) ≡ paste (now (out .entry)) at chain recordSize ⌝ }
 {
     let mut i = 0;
     while i < RECORD {

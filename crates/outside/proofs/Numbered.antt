@@ -14,11 +14,12 @@ use Rattle.ways.specs.Portions.{after}
 use Rattle.ways.specs.Records.{roomOf}
 use Rattle.question.specs.declared.Question.{Question}
 use Rattle.question.specs.Admission.{next}
+use Rattle.ways.specs.Sizes.{recordSize}
 use Rattle.question.specs.Asked.{personFault}
 use Rattle.question.proofs.Numbered.{person-numbered}
 use Rattle.distance.specs.Answers as distance
 use Rattle.distance.specs.declared.Answer as distance-code
-use Rattle.portion.specs.Listing.{recordSize, listingFor, Start, portionFault, portionFor, endedFor, startsAfter}
+use Rattle.portion.specs.Listing.{listingFor, Start, portionFault, portionFor, endedFor, startsAfter}
 use Rattle.portion.specs.Answers as portion
 use Rattle.portion.specs.declared.Answer as portion-code
 use Rattle.portion.proofs.Numbered.{portion-numbered}

@@ -16,6 +16,7 @@ use Rattle.ways.specs.Graph.{_∈_}
 use Rattle.ways.specs.Order.{Before, Rising}
 use Rattle.ways.specs.Portions.{after, portion, endedAfter, lastOr}
 use Rattle.ways.specs.Records.{Fits, recordOf, chainOf, cellsOf, written, roomOf, isRecordIn}
+use Rattle.ways.specs.Sizes.{recordSize}
 use Rattle.ways.proofs.Portions.{lastOr-cases, after-portion, ended-iff, real-chains}
 use Rattle.ways.proofs.After.{after-from, after-all, after-part}
 use Rattle.ways.proofs.Members.{take-in}
@@ -25,7 +26,7 @@ use Rattle.question.specs.declared.Question.{Question}
 use Rattle.question.specs.Asked.{askedFault}
 use Rattle.question.specs.Admission.{next}
 use Rattle.question.proofs.Leads.{next-rising}
-use Rattle.portion.specs.Listing.{recordSize, listingFor, Start, fresh, after as following, startsAfter, startFault, portionFault, portionFor, endedFor}
+use Rattle.portion.specs.Listing.{listingFor, Start, fresh, bookmarked, startsAfter, startFault, portionFault, portionFor, endedFor}
 use Rattle.portion.specs.Answers.{Answer, listed, refused, answerSaid, answerFor, cellsFor, Portioned}
 use Rattle.portion.specs.EndToEnd.{Call, countOf, saysEnded, wrote, lastRecord, startBehind, Run, done, call, allWrote, allRoom, EndsRight, LaidFrom, LaidEndToEnd, Resumed}
 use Rattle.portion.specs.declared.Answer as code
@@ -110,12 +111,12 @@ laid-end-to-end file q asked {calls} r =
     record { cells = laid .0; ends = laid .1 }
 
 -- and from a bookmark that passes
-pub laid-behind : (file : List ℕ) (q : Question) → askedFault file q ≡ sound → (bookmark : List ℕ) → startFault (listingFor file q) (following bookmark) ≡ sound → {calls : List Call}
-    → Run file q (following bookmark) calls → Resumed file q bookmark calls
+pub laid-behind : (file : List ℕ) (q : Question) → askedFault file q ≡ sound → (bookmark : List ℕ) → startFault (listingFor file q) (bookmarked bookmark) ≡ sound → {calls : List Call}
+    → Run file q (bookmarked bookmark) calls → Resumed file q bookmark calls
 laid-behind file q asked bookmark passing {calls} r =
     let L = listingFor file q in
     let chain = isRecordIn-iff recordSize L bookmark (fits file q asked) .0 (unless-none (isRecordIn recordSize L bookmark) 17 0 passing .0) in
     let part = after-part (chainOf bookmark) L (rises file q asked) (chain .1) in
     let at : after (chainOf bookmark) L ≡ drop (length (part .0) + 1) L = sym (drop-append-add (part .0) (chainOf bookmark ∷ after (chainOf bookmark) L) 1) ∙ ap (drop (length (part .0) + 1)) (sym (part .1)) in
-    let laid = run-laid file q asked calls (following bookmark) (length (part .0) + 1) passing at r in
+    let laid = run-laid file q asked calls (bookmarked bookmark) (length (part .0) + 1) passing at r in
     record { before = part .0; behind = after (chainOf bookmark) L; stands = part .1; laid = record { cells = laid .0; ends = laid .1 } }

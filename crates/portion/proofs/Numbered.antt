@@ -7,10 +7,11 @@ use lib.Dec.{leb}
 use Rattle.linkfile.specs.Verdict.{sound, unless, Numbered}
 use Rattle.linkfile.proofs.Numbered.{numbered-unless, numbered-first, numbered-more}
 use Rattle.ways.specs.Records.{isRecordIn}
+use Rattle.ways.specs.Sizes.{recordSize}
 use Rattle.question.specs.declared.Question.{Question}
 use Rattle.question.specs.Asked.{askedFault}
 use Rattle.question.proofs.Numbered.{asked-numbered}
-use Rattle.portion.specs.Listing.{recordSize, listingFor, Start, fresh, after as following, startFault, portionFault}
+use Rattle.portion.specs.Listing.{listingFor, Start, fresh, bookmarked, startFault, portionFault}
 
 pub portion-numbered : (file : List ℕ) (q : Question) (start : Start) (out : List ℕ) → Numbered 17 (portionFault file q start out)
 unfolding portionFault
@@ -20,4 +21,4 @@ portion-numbered file q start out =
   where
     starts : (s : Start) → Numbered 17 (startFault (listingFor file q) s)
     starts fresh = tt
-    starts (following bookmark) = numbered-unless 17 (isRecordIn recordSize (listingFor file q) bookmark) 17 0 sound (omega arith, omega arith) tt
+    starts (bookmarked bookmark) = numbered-unless 17 (isRecordIn recordSize (listingFor file q) bookmark) 17 0 sound (omega arith, omega arith) tt

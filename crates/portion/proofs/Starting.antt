@@ -12,10 +12,11 @@ use Rattle.linkfile.specs.Format.{personCount}
 use Rattle.linkfile.specs.Verdict.{Fault, sound, fault, unless, firstOf}
 use Rattle.linkfile.specs.Checked.{fileFault}
 use Rattle.linkfile.proofs.Passed.{sound-rules, passed-fits}
-use Rattle.ways.specs.Graph.{Graph, pick}
+use Rattle.ways.specs.Graph.{Graph}
 use Rattle.ways.specs.Listing.{listing}
 use Rattle.ways.specs.Portions.{portion, endedAfter}
 use Rattle.ways.specs.Records.{chainOf, isRecordIn, written, roomOf}
+use Rattle.ways.specs.Sizes.{recordSize}
 use Rattle.compact.specs.Compact.{graphOf, Compact, persons}
 use Rattle.question.specs.declared.Question.{Question}
 use Rattle.question.specs.Asked.{askedFault, questionFault}
@@ -24,7 +25,7 @@ use Rattle.question.specs.Filled.{Filled}
 use Rattle.question.proofs.Refused.{Proper, question-proper}
 use Rattle.search.specs.Face as search
 use Rattle.search.specs.declared.Listed as search-found
-use Rattle.portion.specs.Listing.{recordSize, listingFor, Start, fresh, after, startSaid, startsAfter, startFault, portionFault, portionFor, endedFor}
+use Rattle.portion.specs.Listing.{listingFor, Start, fresh, bookmarked, startSaid, startsAfter, startFault, portionFault, portionFor, endedFor}
 use Rattle.portion.specs.Bookmark.{isBookmark, startFits}
 use Rattle.portion.specs.Inside.{Passes}
 use Rattle.portion.specs.Answers.{Answer, listed, refused, answerSaid, answerFor, cellsFor, Portioned}
@@ -67,7 +68,7 @@ start-decides : (g : Graph) (q : Question) (started : ℕ) (cells : List ℕ) �
     → startFault (listing g (q .from) (q .to) (q .hops)) (startSaid started cells) ≡ unless (startFits g q started cells) 17 0 sound
 start-decides g q started cells ne h = rw (bookmark-is g (q .from) (q .to) (q .hops) recordSize ne h cells) (go (eqb started 0))
   where
-    go : (b : Bool) → startFault (listing g (q .from) (q .to) (q .hops)) (cond b fresh (after cells)) ≡ unless (cond b true (isRecordIn recordSize (listing g (q .from) (q .to) (q .hops)) cells)) 17 0 sound
+    go : (b : Bool) → startFault (listing g (q .from) (q .to) (q .hops)) (cond b fresh (bookmarked cells)) ≡ unless (cond b true (isRecordIn recordSize (listing g (q .from) (q .to) (q .hops)) cells)) 17 0 sound
     go true = refl
     go false = refl
 
@@ -75,12 +76,12 @@ start-decides g q started cells ne h = rw (bookmark-is g (q .from) (q .to) (q .h
 start-mark : (started : ℕ) (cells : List ℕ) → search.markOf started cells ≡ startsAfter (startSaid started cells)
 start-mark started cells = go (eqb started 0)
   where
-    go : (b : Bool) → pick b [] (chainOf cells) ≡ startsAfter (cond b fresh (after cells))
+    go : (b : Bool) → cond b [] (chainOf cells) ≡ startsAfter (cond b fresh (bookmarked cells))
     go true = refl
     go false = refl
 
 -- no chain follows just where the search says so
-more-ended : (ended : Bool) (more : ℕ) → more ≡ pick ended 0 1 → eqb more 0 ≡ ended
+more-ended : (ended : Bool) (more : ℕ) → more ≡ cond ended 0 1 → eqb more 0 ≡ ended
 more-ended true more e = rw e
 more-ended false more e = rw e
 

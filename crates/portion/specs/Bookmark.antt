@@ -8,8 +8,8 @@ use lib.Seq.{slice}
 use lib.Dec.{eqb}
 use Rattle.linkfile.specs.Numbers.{within}
 use Rattle.ways.specs.Graph.{Graph, among}
+use Rattle.ways.specs.Sizes.{recordSize}
 use Rattle.question.specs.declared.Question.{Question}
-use Rattle.portion.specs.Listing.{recordSize}
 
 -- from each person a link leads to the next, nobody comes again, and the last is To
 unfoldable pub runs : Graph → ℕ → List ℕ → Bool

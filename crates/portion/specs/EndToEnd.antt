@@ -6,9 +6,10 @@ use mathlib.Core.List.{List, [], _∷_, _++_}
 use Prim.Native.Nat.{ℕ, zero, suc, _+_, _*_, _-_, _≤_}
 use lib.ListN.{length, take, drop}
 use Rattle.ways.specs.Records.{chainOf, roomOf, cellsOf}
+use Rattle.ways.specs.Sizes.{recordSize}
 use Rattle.question.specs.declared.Question.{Question}
 use Rattle.portion.specs.declared.Answer as code
-use Rattle.portion.specs.Listing.{recordSize, listingFor, Start, fresh, after}
+use Rattle.portion.specs.Listing.{listingFor, Start, fresh, bookmarked}
 use Rattle.portion.specs.Answers.{Answer, listed, refused, answerSaid, Portioned}
 
 -- one call: the output as it was lent and at exit, and the answer
@@ -36,7 +37,7 @@ lastRecord count cells = take recordSize (drop ((count - 1) * recordSize) cells)
 -- the next call starts after the last record written, or where this one did if it wrote none
 abbrev pub startBehind : Start → ℕ → List ℕ → Start
 startBehind start zero cells = start
-startBehind start (suc count) cells = after (lastRecord (suc count) cells)
+startBehind start (suc count) cells = bookmarked (lastRecord (suc count) cells)
 
 -- a run of calls on one file and question, from a start on, each with room for a record at least
 pub data Run (file : List ℕ) (q : Question) : Start → List Call → Type 0 where

@@ -4,9 +4,9 @@ use mathlib.Core.List.{List}
 use Prim.Native.Nat.{ℕ, _≤_}
 use lib.ListN.{length}
 use Rattle.linkfile.specs.Verdict.{sound}
+use Rattle.ways.specs.Sizes.{recordSize}
 use Rattle.question.specs.declared.Question.{Question}
 use Rattle.question.specs.Asked.{askedFault}
-use Rattle.portion.specs.Listing.{recordSize}
 
 -- a file, a question and an output that have passed
 pub record Passes (file : List ℕ) (q : Question) (out : List ℕ) : Type 0 where

@@ -3,11 +3,13 @@ use compact::LINKS;
 use compact::PERSONS;
 use compact::STARTS;
 use question::Question;
+use ways::RECORD;
 ghost use mathlib.Core.Path.{_≡_};
 ghost use Prim.Native.Nat.{_+_, _≤_, _<_};
 ghost use lib.ListN.{length, getD, drop};
 ghost use lib.Seq.{slice};
 ghost use Rattle.ways.specs.Graph.{among};
+ghost use Rattle.ways.specs.Sizes.{recordSize, mostHops};
 ghost use Rattle.compact.specs.Compact.{graphOf, Compact};
 ghost use Rattle.portion.specs.Bookmark.{runs, zeros, isBookmark, startFits};
 
@@ -89,10 +91,10 @@ pub fn is_chain(
     hops: u32,
     cells: &[u32],
 ) -> bool
-    requires { ⌜ (Compact (now starts) (now targets)) × (hops ≤ 8) ⌝ }
-    ensures { λ r. ⌜ r ≡ isBookmark 10 (graphOf (now (starts .entry)) (now (targets .entry))) from to hops (now (cells .entry)) ⌝ }
+    requires { ⌜ (Compact (now starts) (now targets)) × (hops ≤ mostHops) ⌝ }
+    ensures { λ r. ⌜ r ≡ isBookmark recordSize (graphOf (now (starts .entry)) (now (targets .entry))) from to hops (now (cells .entry)) ⌝ }
 {
-    if cells.len() != 10 {
+    if cells.len() != RECORD {
         return false;
     }
     if !linkfile::numbers::within(1, hops, cells[0]) {
@@ -116,7 +118,7 @@ pub fn fits(
     started: u32,
     bookmark: &[u32],
 ) -> bool
-    requires { ⌜ (Compact (now starts) (now targets)) × (question .hops ≤ 8) ⌝ }
+    requires { ⌜ (Compact (now starts) (now targets)) × (question .hops ≤ mostHops) ⌝ }
     ensures { λ r. ⌜ r ≡ startFits (graphOf (now (starts .entry)) (now (targets .entry))) question started (now (bookmark .entry)) ⌝ }
 {
     if started == 0 {

@@ -12,12 +12,10 @@ use linkfile::Fault;
 use linkfile::header;
 use question::Question;
 use question::filling;
+use ways::RECORD;
 ghost use Rattle.portion.specs.Listing.{startSaid};
 ghost use Rattle.portion.specs.Inside.{Passes};
 ghost use Rattle.portion.specs.Answers.{Portioned};
-
-// The cells of a chain record.
-pub const RECORD: usize = 10;
 
 // What a portion answers.
 pub enum Answer {

@@ -8,7 +8,7 @@ use lib.Dec.{ltb}
 use native.Mathlib.Omega.{arith}
 use native.Mathlib.Decide.{decLe}
 use borrow.Author.Tests.{ltb-true, lt-ltb, le-ltb}
-use Rattle.ways.specs.Graph.{_∈_, pick, keep}
+use Rattle.ways.specs.Graph.{_∈_, keep}
 use Rattle.ways.specs.Order.{Rising}
 use Rattle.ways.proofs.Members.{keep-from, keep-in}
 use Rattle.linkfile.specs.Format.{personCount, row, target}
@@ -47,7 +47,7 @@ module _ (f : ℕ → ℕ) (test : ℕ → Bool) where
       cases first (inl e) on = omega arith
       cases first (inr i) on = on i
 
-      go : low < f from → (t : Bool) → y ∈ map f (pick t (from ∷ rest) rest) → (y ∈ map f rest → low < y) → low < y
+      go : low < f from → (t : Bool) → y ∈ map f (cond t (from ∷ rest) rest) → (y ∈ map f rest → low < y) → low < y
       go first true m on = cases first (List·Memᴰ·cases-cons m) on
       go first false m on = on m
 
@@ -61,7 +61,7 @@ module _ (f : ℕ → ℕ) (test : ℕ → Bool) where
       rest : List ℕ
       rest = keep test (numbersFrom (suc from) count)
 
-      go : (t : Bool) → ((y : ℕ) → y ∈ map f rest → f from < y) → Rising _<_ (map f rest) → Rising _<_ (map f (pick t (from ∷ rest) rest))
+      go : (t : Bool) → ((y : ℕ) → y ∈ map f rest → f from < y) → Rising _<_ (map f rest) → Rising _<_ (map f (cond t (from ∷ rest) rest))
       go true above rises = (above, rises)
       go false above rises = rises
 

@@ -9,8 +9,9 @@ use Rattle.linkfile.specs.Format.{personCount}
 use Rattle.linkfile.specs.Verdict.{Fault, sound, unless, firstOf, Numbered}
 use Rattle.linkfile.specs.Checked.{fileFault}
 use Rattle.linkfile.proofs.Numbered.{numbered-unless, numbered-first, numbered-more, file-numbered}
+use Rattle.ways.specs.Sizes.{mostHops}
 use Rattle.question.specs.declared.Question.{Question}
-use Rattle.question.specs.Asked.{mostHops, daysFit, restFault, questionFault, personFault, askedFault}
+use Rattle.question.specs.Asked.{daysFit, restFault, questionFault, personFault, askedFault}
 
 rest-numbered : (q : Question) → Numbered 15 (restFault q)
 unfolding restFault

@@ -14,7 +14,8 @@ use Rattle.linkfile.specs.declared.Fault as code
 use Rattle.linkfile.proofs.Counted.{within-facts}
 use Rattle.linkfile.proofs.Passed.{Passed, sound-rules}
 use Rattle.linkfile.proofs.Linked.{unless-none}
-use Rattle.question.specs.Asked.{mostHops, endsFault, restFault, questionFault, personFault, Asks}
+use Rattle.ways.specs.Sizes.{mostHops}
+use Rattle.question.specs.Asked.{endsFault, restFault, questionFault, personFault, Asks}
 use Rattle.question.specs.declared.Question.{Question}
 
 -- the ends are looked at before all else

@@ -10,11 +10,8 @@ use Rattle.linkfile.specs.Format.{personCount}
 use Rattle.linkfile.specs.Verdict.{Fault, sound, unless, firstOf, faultSaid}
 use Rattle.linkfile.specs.Checked.{lastDay, fileFault}
 use Rattle.linkfile.specs.declared.Fault as code
+use Rattle.ways.specs.Sizes.{mostHops}
 use Rattle.question.specs.declared.Question.{Question}
-
--- the most hops that a question may ask for
-abbrev pub mostHops : ℕ
-mostHops = 8
 
 -- 10: From (place 0, looked at first) or To (1) not below n
 abbrev pub endsFault : ℕ → Question → Fault → Fault

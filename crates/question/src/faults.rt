@@ -3,9 +3,13 @@
 use crate::Question;
 use linkfile::Fault;
 use linkfile::numbers;
+use ways::HOPS;
 ghost use mathlib.Core.Path.{_≡_};
 ghost use Rattle.linkfile.specs.Verdict.{faultSaid, sound};
 ghost use Rattle.question.specs.Asked.{endsFault, daysFit, restFault, questionFault, personFault};
+
+// The most hops, as wide as a question's numbers.
+const MOST: u32 = HOPS as u32;
 
 // From and To are persons of the file, From looked at first.
 fn ends_fault(persons: u32, question: Question) -> Fault
@@ -40,7 +44,7 @@ fn rest_fault(question: Question) -> Fault
     if question.from == question.to {
         return Fault::At(11, 0);
     }
-    if !numbers::within(1, 8, question.hops) {
+    if !numbers::within(1, MOST, question.hops) {
         return Fault::At(12, 0);
     }
     if !numbers::within(1, 15, question.classes) {

@@ -1,13 +1,12 @@
 -- Cases of numbers, and what cannot be.
 use mathlib.Core.Path.{_≡_, refl, ap}
-use mathlib.Core.Bool.{Bool, true, false}
+use mathlib.Core.Bool.{Bool, true, false, cond}
 use mathlib.Core.Logic.{_⊎_, inl, inr}
 use Prim.Native.Nat.{ℕ, _≤_, _<_}
 use native.Mathlib.Omega.{arith}
 use native.Mathlib.Decide.{ℕ-discrete}
 use lib.Dec.{ltb}
 use borrow.Author.Tests.{ltb-true, ltb-false}
-use Rattle.ways.specs.Graph.{pick}
 
 pub same-or-not : (u v : ℕ) → (u ≡ v) ⊎ (u ≡ v → ⊥)
 same-or-not u v = to (ℕ-discrete u v)
@@ -24,4 +23,4 @@ lt-or-le a b = go (ltb a b) refl
     go false e = inr (ltb-false a b e)
 
 pub never : {A : Type 0} → false ≡ true → A
-never e = let z : _≡_ {A = ℕ} 0 1 = ap (λ b. pick b 1 0) e in absurd (omega arith)
+never e = let z : _≡_ {A = ℕ} 0 1 = ap (λ b. cond b 1 0) e in absurd (omega arith)

@@ -1,6 +1,6 @@
 -- After a bookmark: what a person's side of it says of the ways through him.
 use mathlib.Core.Path.{_≡_, refl, sym, ap, subst, _∙_}
-use mathlib.Core.Bool.{Bool, true, false}
+use mathlib.Core.Bool.{Bool, true, false, cond}
 use mathlib.Core.List.{List, [], _∷_, _++_, map, Memᴰ·of-map}
 use Prim.Native.Nat.{ℕ, _+_, _≤_, _<_}
 use lib.ListN.{getD}
@@ -10,7 +10,6 @@ use lib.Dec.{eqb}
 use native.Mathlib.Omega.{arith}
 use native.Mathlib.Numerals.{add-one}
 use borrow.Author.Tests.{eq-eqb, ne-eqb}
-use Rattle.ways.specs.Graph.{pick}
 use Rattle.ways.specs.Order.{Before, less, same}
 use Rattle.ways.specs.Portions.{after}
 use Rattle.ways.proofs.After.{after-append, after-map, after-all, after-none, before-nil}
@@ -29,7 +28,7 @@ pub onward-none : (tight : ℕ) (b : List ℕ) → onward tight b [] ≡ []
 unfolding onward after
 onward-none tight b = go (eqb tight 0)
   where
-    go : (c : Bool) → pick c [] (after b []) ≡ []
+    go : (c : Bool) → cond c [] (after b []) ≡ []
     go true = refl
     go false = refl
 
@@ -37,7 +36,7 @@ pub onward-append : (tight : ℕ) (b : List ℕ) (xs ys : List (List ℕ)) → o
 unfolding onward
 onward-append tight b xs ys = go (eqb tight 0)
   where
-    go : (c : Bool) → pick c (xs ++ ys) (after b (xs ++ ys)) ≡ pick c xs (after b xs) ++ pick c ys (after b ys)
+    go : (c : Bool) → cond c (xs ++ ys) (after b (xs ++ ys)) ≡ cond c xs (after b xs) ++ cond c ys (after b ys)
     go true = refl
     go false = after-append b xs ys
 

@@ -1,6 +1,6 @@
 -- The two functions of the cycle: one law for each of their needs, named after the place in the code.
 use mathlib.Core.Path.{_≡_, refl, sym, ap, subst, _∙_}
-use mathlib.Core.Bool.{Bool, true, false}
+use mathlib.Core.Bool.{Bool, true, false, cond}
 use mathlib.Core.List.{List, [], _∷_, _++_, flatMap, map, map-map, map-append, List·Memᴰ·head, List·Memᴰ·tail}
 use mathlib.Core.Logic.{⊎-elim}
 use Prim.Native.Nat.{ℕ, zero, suc, _+_, _-_, _≤_, _<_}
@@ -10,7 +10,7 @@ use lib.Dec.{eqb}
 use native.Mathlib.Omega.{arith}
 use native.Mathlib.Numerals.{add-one, sub-one}
 use borrow.Author.Tests.{eq-eqb, ne-eqb}
-use Rattle.ways.specs.Graph.{Graph, _∈_, pick, among}
+use Rattle.ways.specs.Graph.{Graph, _∈_, among}
 use Rattle.ways.specs.Order.{Rising}
 use Rattle.ways.specs.Listing.{by, ways}
 use Rattle.ways.proofs.Members.{flatMap-append, mem-split}
@@ -61,7 +61,7 @@ unfolding flatMap by ways
 last-none g t seen [] h = refl
 last-none g t seen (x ∷ row) h = rw (ne-eqb x t (h x (List·Memᴰ·head refl)), last-none g t seen row (λ y m. h y (List·Memᴰ·tail m))) (go (among x seen))
   where
-    go : (b : Bool) → _≡_ {A = List (List ℕ)} (pick b [] [] ++ []) []
+    go : (b : Bool) → _≡_ {A = List (List ℕ)} (cond b [] [] ++ []) []
     go true = refl
     go false = refl
 
@@ -83,7 +83,7 @@ module _ {rows targets bookmark : List ℕ} {marks : List Bool} {chain out barri
   unfolding by emits
   enter-skipped {s} side e = record { same = refl; whole = refl; barred = here; right = go (eqb v (w .to)) (among v (seenOf chain (w .len))) (ways (graphOf rows targets) (w .to) (w .left - 1) (v ∷ seenOf chain (w .len)) v) }
     where
-      go : (a b : Bool) (ws : List (List ℕ)) → page found out ≡ emits (w .room) (page found out) (map (recordWith chain (w .len)) (onward (w .tight) (restOf bookmark (w .len)) (pick a ((v ∷ []) ∷ []) (pick b [] (map (_∷_ v) ws)))))
+      go : (a b : Bool) (ws : List (List ℕ)) → page found out ≡ emits (w .room) (page found out) (map (recordWith chain (w .len)) (onward (w .tight) (restOf bookmark (w .len)) (cond a ((v ∷ []) ∷ []) (cond b [] (map (_∷_ v) ws)))))
       go true b ws = rw (side .skipped e ([] ∷ []))
       go false true ws = rw onward-none
       go false false ws = rw (side .skipped e ws)

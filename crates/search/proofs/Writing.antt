@@ -1,6 +1,6 @@
 -- Writing records while there is room: what was written in parts was written at once, and nothing more once one was noted.
 use mathlib.Core.Path.{_≡_, refl, sym, ap, _∙_}
-use mathlib.Core.Bool.{Bool, true, false}
+use mathlib.Core.Bool.{Bool, true, false, cond}
 use mathlib.Core.List.{List, [], _∷_, _++_, map}
 use mathlib.Core.Logic.{⊎-elim}
 use Prim.Native.Nat.{ℕ, _+_, _-_, _*_, _≤_, _<_}
@@ -11,8 +11,7 @@ use native.Mathlib.Omega.{arith}
 use native.Mathlib.Nat.{zero-add, suc-add, add-zero}
 use native.Mathlib.Numerals.{add-one}
 use borrow.Author.Tests.{eq-eqb, ne-eqb, lt-ltb, le-ltb}
-use Rattle.ways.specs.Graph.{pick}
-use Rattle.search.specs.Face.{size}
+use Rattle.ways.specs.Sizes.{recordSize}
 use Rattle.search.specs.Pages.{Page, emit, emits, recordWith, Room, Handed}
 use Rattle.search.specs.declared.walk.Found.{Found}
 use Rattle.search.proofs.Cases.{same-or-not, lt-or-le}
@@ -20,24 +19,24 @@ use Rattle.search.proofs.Cases.{same-or-not, lt-or-le}
 -- ---- `put`: i cells are copied
 
 pub record Putting (out₀ : List ℕ) (at : ℕ) (chain out : List ℕ) (i : ℕ) : Type 0 where
-  pub within : i ≤ size
+  pub within : i ≤ recordSize
   pub right : out ≡ paste out₀ at chain i
 
 pub put-none : {out : List ℕ} {at : ℕ} {chain : List ℕ} → Putting out at chain out 0
 put-none {out} {at} {chain} = record { within = omega arith; right = paste-zero out at chain }
 
-module _ {out₀ : List ℕ} {at : ℕ} {chain out : List ℕ} {i : ℕ} (long : length chain ≡ size) (fits : at + size ≤ length out₀) (p : Putting out₀ at chain out i) where
+module _ {out₀ : List ℕ} {at : ℕ} {chain out : List ℕ} {i : ℕ} (long : length chain ≡ recordSize) (fits : at + recordSize ≤ length out₀) (p : Putting out₀ at chain out i) where
   pub put-length : length out ≡ length out₀
   put-length = ap length (p .right) ∙ length-paste out₀ at chain i (omega (arith, p .within)) (omega (arith, p .within))
 
-  pub put-fits : i < size → at + i < length out
+  pub put-fits : i < recordSize → at + i < length out
   put-fits lt = omega (arith, put-length)
 
-  pub put-turn : i < size → Putting out₀ at chain (set out (at + i) (getD chain i 0)) (i + 1)
+  pub put-turn : i < recordSize → Putting out₀ at chain (set out (at + i) (getD chain i 0)) (i + 1)
   put-turn lt = record { within = omega arith; right = rw (p .right, add-one) (paste-suc out₀ at chain i 0 (omega arith) (omega arith)) }
 
-  pub put-end : size ≤ i → out ≡ paste out₀ at chain size
-  put-end h = let e : i ≡ size = omega (arith, p .within) in p .right ∙ ap (λ (n : ℕ). paste out₀ at chain n) e
+  pub put-end : recordSize ≤ i → out ≡ paste out₀ at chain recordSize
+  put-end h = let e : i ≡ recordSize = omega (arith, p .within) in p .right ∙ ap (λ (n : ℕ). paste out₀ at chain n) e
 
 -- ---- `hand_over`
 
@@ -55,28 +54,28 @@ paste-set d at s n i x hd hs hi =
     (ap (λ (m : ℕ). set (take at d ++ take n s) (m + i) x) (sym la) ∙ set-behind (take at d) (take n s) i x ∙ ap (λ (r : List ℕ). take at d ++ r) (sym (take-set-lt n s i x hi)))
 
 -- the cells of a record, set where they lie
-set-record : (out chain : List ℕ) (at a b x y z : ℕ) → at + size ≤ length out → length chain ≡ size → a < size → b < size
-    → set (set (set (paste out at chain size) at x) (at + a) y) (at + b) z ≡ paste out at (set (set (set chain 0 x) a y) b z) size
+set-record : (out chain : List ℕ) (at a b x y z : ℕ) → at + recordSize ≤ length out → length chain ≡ recordSize → a < recordSize → b < recordSize
+    → set (set (set (paste out at chain recordSize) at x) (at + a) y) (at + b) z ≡ paste out at (set (set (set chain 0 x) a y) b z) recordSize
 set-record out chain at a b x y z fits long ha hb =
-    let first : set (paste out at chain size) at x ≡ paste out at (set chain 0 x) size = ap (λ (i : ℕ). set (paste out at chain size) i x) (sym (add-zero at)) ∙ paste-set out at chain size 0 x (omega arith) (omega arith) (omega arith) in
-    let l₁ : length (set chain 0 x) ≡ size = length-set chain 0 x ∙ long in
-    let l₂ : length (set (set chain 0 x) a y) ≡ size = length-set (set chain 0 x) a y ∙ l₁ in
+    let first : set (paste out at chain recordSize) at x ≡ paste out at (set chain 0 x) recordSize = ap (λ (i : ℕ). set (paste out at chain recordSize) i x) (sym (add-zero at)) ∙ paste-set out at chain recordSize 0 x (omega arith) (omega arith) (omega arith) in
+    let l₁ : length (set chain 0 x) ≡ recordSize = length-set chain 0 x ∙ long in
+    let l₂ : length (set (set chain 0 x) a y) ≡ recordSize = length-set (set chain 0 x) a y ∙ l₁ in
     ap (λ (o : List ℕ). set (set o (at + a) y) (at + b) z) first
-    ∙ ap (λ (o : List ℕ). set o (at + b) z) (paste-set out at (set chain 0 x) size a y (omega arith) (omega arith) ha)
-    ∙ paste-set out at (set (set chain 0 x) a y) size b z (omega arith) (omega arith) hb
+    ∙ ap (λ (o : List ℕ). set o (at + b) z) (paste-set out at (set chain 0 x) recordSize a y (omega arith) (omega arith) ha)
+    ∙ paste-set out at (set (set chain 0 x) a y) recordSize b z (omega arith) (omega arith) hb
 
 module _ {out chain : List ℕ} {room len hops : ℕ} {found : Found} (k : Room out chain room len hops found) where
   pub hand-full : {to v : ℕ} → room ≤ found .count → Handed out out chain to room len v hops found (record { count = found .count; more = 1; trail = found .trail })
   hand-full h = record { trail = refl; right = rw (eq-eqb (found .more) 0 (k .none), le-ltb (found .count) room h) }
 
-  pub hand-fits : found .count < room → found .count * size + size ≤ length out
+  pub hand-fits : found .count < room → found .count * recordSize + recordSize ≤ length out
   hand-fits h = omega (arith, k .cells)
 
-  pub hand-put : {to v : ℕ} {out′ : List ℕ} → found .count < room → out′ ≡ paste out (found .count * size) chain size
-      → Handed out (set (set (set out′ (found .count * size) hops) (found .count * size + (len + 1)) v) (found .count * size + (hops + 1)) to) chain to room len v hops found (record { count = found .count + 1; more = 0; trail = found .trail })
+  pub hand-put : {to v : ℕ} {out′ : List ℕ} → found .count < room → out′ ≡ paste out (found .count * recordSize) chain recordSize
+      → Handed out (set (set (set out′ (found .count * recordSize) hops) (found .count * recordSize + (len + 1)) v) (found .count * recordSize + (hops + 1)) to) chain to room len v hops found (record { count = found .count + 1; more = 0; trail = found .trail })
   hand-put {to} {v} {out′} h e = record {
     trail = refl;
-    right = rw (eq-eqb (found .more) 0 (k .none), lt-ltb (found .count) room h, e, set-record out chain (found .count * size) (len + 1) (hops + 1) hops v to (hand-fits h) (k .long) (omega (arith, k .behind, k .short)) (omega (arith, k .short)));
+    right = rw (eq-eqb (found .more) 0 (k .none), lt-ltb (found .count) room h, e, set-record out chain (found .count * recordSize) (len + 1) (hops + 1) hops v to (hand-fits h) (k .long) (omega (arith, k .behind, k .short)) (omega (arith, k .short)));
   }
 
 -- the record of the chain with To behind it, and with v and To behind it
@@ -119,7 +118,7 @@ emits-count room s (x ∷ xs) =
     let one : s .count ≤ emit room s x .count = go (eqb (s .more) 0) (ltb (s .count) room) in
     omega (arith, rest, one)
   where
-    go : (a b : Bool) → s .count ≤ pick a (pick b (record { count = s .count + 1; more = 0; out = paste (s .out) (s .count * size) x size }) (record { count = s .count; more = 1; out = s .out })) s .count
+    go : (a b : Bool) → s .count ≤ cond a (cond b (record { count = s .count + 1; more = 0; out = paste (s .out) (s .count * recordSize) x recordSize }) (record { count = s .count; more = 1; out = s .out })) s .count
     go true true = omega arith
     go true false = omega arith
     go false b = omega arith

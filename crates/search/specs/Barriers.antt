@@ -7,8 +7,8 @@ use lib.ListN.{length, getD, set, take}
 use lib.Seq.{slice}
 use Rattle.ways.specs.Graph.{Graph, _∈_}
 use Rattle.ways.specs.Listing.{ways}
+use Rattle.ways.specs.Sizes.{mostHops}
 use Rattle.compact.specs.Compact.{persons}
-use Rattle.search.specs.Face.{mostHops}
 use Rattle.search.specs.declared.walk.Found.{Found}
 
 -- Sound: from v there is no way to t in fewer hops than v's barrier that passes nobody seen.

@@ -1,12 +1,12 @@
 -- What is written: records one behind the other, while there is room. Definitions only.
 use mathlib.Core.Path.{_≡_}
+use mathlib.Core.Bool.{cond}
 use mathlib.Core.List.{List, [], _∷_}
 use Prim.Native.Nat.{ℕ, _+_, _-_, _*_, _≤_, _<_}
 use lib.ListN.{length, set}
 use lib.Dec.{ltb, eqb}
 use lib.Seq.{paste}
-use Rattle.ways.specs.Graph.{pick}
-use Rattle.search.specs.Face.{size}
+use Rattle.ways.specs.Sizes.{recordSize}
 use Rattle.search.specs.declared.walk.Found.{Found}
 
 -- so many records are written, whether there was one more (1), and the cells
@@ -21,9 +21,9 @@ page f out = record { count = f .count; more = f .more; out = out }
 -- one more record: written if there is room, else noted; and nothing once one was noted
 abbrev pub emit : ℕ → Page → List ℕ → Page
 emit room s r =
-    pick (eqb (s .more) 0)
-    (pick (ltb (s .count) room)
-    (record { count = s .count + 1; more = 0; out = paste (s .out) (s .count * size) r size })
+    cond (eqb (s .more) 0)
+    (cond (ltb (s .count) room)
+    (record { count = s .count + 1; more = 0; out = paste (s .out) (s .count * recordSize) r recordSize })
     (record { count = s .count; more = 1; out = s .out }))
     s
 
@@ -39,10 +39,10 @@ recordWith chain len (v ∷ w) = recordWith (set chain (len + 1) v) (len + 1) w
 
 -- there are cells for the records, and in a record for the hops; and nothing is noted yet
 pub record Room (out chain : List ℕ) (room len hops : ℕ) (found : Found) : Type 0 where
-  pub cells : room * size ≤ length out
-  pub long : length chain ≡ size
+  pub cells : room * recordSize ≤ length out
+  pub long : length chain ≡ recordSize
   pub behind : len ≤ hops
-  pub short : hops + 1 < size
+  pub short : hops + 1 < recordSize
   pub none : found .more ≡ 0
 
 -- what handing over does: the chain's record with v behind the chain so far, and To at the end

@@ -6,8 +6,8 @@ use Prim.Native.Nat.{ℕ, zero, suc, _+_, _-_, _*_, _≤_, _<_}
 use lib.ListN.{length, getD}
 use Rattle.ways.specs.Graph.{among}
 use Rattle.ways.specs.Listing.{by, ways}
+use Rattle.ways.specs.Sizes.{recordSize}
 use Rattle.compact.specs.Compact.{persons, graphOf, Compact}
-use Rattle.search.specs.Face.{size}
 use Rattle.search.specs.Pages.{Page, page, emits, recordWith}
 use Rattle.search.specs.Bookmarks.{restOf, onward, Tight}
 use Rattle.search.specs.Barriers.{Hold, trailRoom, Barred}
@@ -30,11 +30,11 @@ pub record Ready (rows targets bookmark : List ℕ) (marks : List Bool) (chain o
   pub place : at < persons
   pub wide : length marks ≡ persons
   pub marked : Marked marks (seenOf chain (w .len))
-  pub long : length chain ≡ size
+  pub long : length chain ≡ recordSize
   pub blank : (i : ℕ) → w .len < i → getD chain i 0 ≡ 0
   pub some : 1 ≤ w .left
-  pub short : w .len + w .left < size
-  pub room : w .room * size ≤ length out
+  pub short : w .len + w .left < recordSize
+  pub room : w .room * recordSize ≤ length out
   pub tight : Tight bookmark w
   pub hold : Hold (graphOf rows targets) (w .to) (seenOf chain (w .len)) barriers
   pub trails : length trail ≡ trailRoom

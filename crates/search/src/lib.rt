@@ -16,12 +16,7 @@ use compact::STARTS;
 use walk::Ask;
 use walk::Found;
 use walk::Walk;
-
-// A chain record has ten cells: the hops, the persons, zeros.
-pub const RECORD: usize = 10;
-
-// A chain has at most eight hops.
-pub const HOPS: usize = 8;
+use ways::RECORD;
 
 // How many chains were written, and whether one more follows (1) or none (0).
 pub struct Listed {

@@ -3,17 +3,17 @@ ghost use mathlib.Core.Path.{_≡_};
 ghost use Prim.Native.Nat.{_+_, _≤_};
 ghost use lib.ListN.{length};
 ghost use lib.Seq.{paste};
-ghost use Rattle.search.specs.Face.{size};
+ghost use Rattle.ways.specs.Sizes.{recordSize};
 ghost use Rattle.search.specs.Pages.{Room, Handed};
-use crate::RECORD;
 use crate::walk::Ask;
 use crate::walk::Found;
 use crate::walk::Walk;
+use ways::RECORD;
 
 // Copies the cells of the chain to `out`, from cell `at` on.
 fn put(out: &mut [u32], at: usize, chain: [u32; RECORD])
-    requires { ⌜ at + size ≤ length (now out) ⌝ }
-    ensures { λ _. ⌜ now (out .exit) ≡ paste (now (out .entry)) at chain size ⌝ }
+    requires { ⌜ at + recordSize ≤ length (now out) ⌝ }
+    ensures { λ _. ⌜ now (out .exit) ≡ paste (now (out .entry)) at chain recordSize ⌝ }
 {
     let mut i = 0;
     while i < RECORD {

@@ -1,11 +1,11 @@
 // The cycle: entering a person, and going through that person's links.
 ghost use Rattle.search.specs.Places.{placeOf};
 ghost use Rattle.search.specs.Walks.{Ready, Entered, GoneThrough};
-use crate::HOPS;
-use crate::RECORD;
 use compact::LINKS;
 use compact::PERSONS;
 use compact::STARTS;
+use ways::HOPS;
+use ways::RECORD;
 
 // Each entry that stands on the trail has raised its person's barrier, and none passes the hops: never too few.
 pub const TRAIL: usize = HOPS * PERSONS;

@@ -12,9 +12,10 @@ use lib.ListN.{length, getD, take, drop, set, length-drop}
 use lib.Seq.{slice, slice-cons, slice-empty, drop-cons, drop-length, take-nil, length-take-le, length-slice}
 use Rattle.ways.specs.Chain.{hops}
 use Rattle.ways.specs.Records.{chainOf}
+use Rattle.ways.specs.Sizes.{recordSize}
 use Rattle.text.specs.declared.Page.{Page}
 use Rattle.text.specs.Decimal.{decimal}
-use Rattle.text.specs.Lines.{spaced, chainLine, chainLines, endLine, refusalLine, recordSize, chainAt, chainsAt, RecordAt}
+use Rattle.text.specs.Lines.{spaced, chainLine, chainLines, endLine, refusalLine, chainAt, chainsAt, RecordAt}
 use Rattle.text.specs.Printed.{Printed, Paged, longestLine}
 use Rattle.text.proofs.Printing.{Printing, starts, byte, part, done, same-bytes, behind, two-bytes, nothing, printed-length}
 use Rattle.text.proofs.Spelling.{decimal-one, number-length}

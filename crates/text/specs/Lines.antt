@@ -4,6 +4,7 @@ use Prim.Native.Nat.{ℕ, zero, suc, _+_, _*_, _≤_, _<_}
 use lib.ListN.{length, getD, drop}
 use Rattle.ways.specs.Chain.{hops}
 use Rattle.ways.specs.Records.{chainOf}
+use Rattle.ways.specs.Sizes.{recordSize, mostHops}
 use Rattle.text.specs.Decimal.{decimal}
 
 -- each person with a space in front: behind a colon these are "a space, the persons with single spaces between"
@@ -29,10 +30,6 @@ unfoldable pub refusalLine : ℕ → ℕ → List ℕ
 refusalLine number place =
     114 ∷ 101 ∷ 102 ∷ 117 ∷ 115 ∷ 101 ∷ 100 ∷ 32 ∷ (decimal number ++ 32 ∷ 97 ∷ 116 ∷ 32 ∷ (decimal place ++ 10 ∷ []))
 
--- "A chain record has ten 32-bit cells: the hops L, then L+1 persons, then zeros."
-abbrev pub recordSize : ℕ
-recordSize = 10
-
 -- the chain in the record of a number
 abbrev pub chainAt : List ℕ → ℕ → List ℕ
 chainAt cells number = chainOf (drop (number * recordSize) cells)
@@ -42,10 +39,10 @@ unfoldable pub chainsAt : List ℕ → ℕ → ℕ → List (List ℕ)
 chainsAt cells number zero = []
 chainsAt cells number (suc count) = chainAt cells number ∷ chainsAt cells (suc number) count
 
--- the record of a number lies in the cells, and has at most 8 hops
+-- the record of a number lies in the cells, and has at most so many hops
 pub record RecordAt (cells : List ℕ) (number : ℕ) : Type 0 where
   pub whole : number * recordSize + recordSize ≤ length cells
-  pub few : getD cells (number * recordSize) 0 ≤ 8
+  pub few : getD cells (number * recordSize) 0 ≤ mostHops
 
 -- so do so many records
 abbrev pub Records : List ℕ → ℕ → Type 0

@@ -6,13 +6,12 @@
 pub mod counts;
 pub mod numbers;
 
+use ways::RECORD;
 ghost use Prim.Native.Nat.{_+_, _≤_, _<_};
 ghost use lib.ListN.{length};
 ghost use Rattle.text.specs.Decimal.{worth, Digits};
 ghost use Rattle.text.specs.Lines.{RecordAt, Records, chainAt, chainLine, endLine, refusalLine};
 ghost use Rattle.text.specs.Printed.{Printed, Paged, longestLine};
-
-pub const RECORD: usize = 10;
 
 pub const DIGITS: usize = 40;
 

@@ -1,12 +1,12 @@
 -- What follows a bookmark: through the rows of the graph, and in the listing.
 use mathlib.Core.Path.{_≡_, refl, sym, ap, subst, _∙_}
 use mathlib.Core.Logic.{_≢_, _⊎_, inl, inr}
-use mathlib.Core.Bool.{Bool, true, false, true≢false}
+use mathlib.Core.Bool.{Bool, true, false, true≢false, cond}
 use mathlib.Core.List.{List, [], _∷_, _++_, map, flatMap, List·Memᴰ·head, List·Memᴰ·tail}
 use Prim.Native.Nat.{ℕ, suc, _<_}
 use native.Mathlib.Omega.{arith}
 use borrow.Author.Tests.{eq-eqb, ne-eqb, le-ltb}
-use Rattle.ways.specs.Graph.{Graph, _∈_, pick, keep}
+use Rattle.ways.specs.Graph.{Graph, _∈_, keep}
 use Rattle.ways.specs.Order.{Before, less, same, before, Rising}
 use Rattle.ways.specs.Listing.{by, ways, listing}
 use Rattle.ways.specs.Portions.{after}
@@ -53,7 +53,7 @@ after-after b d (c ∷ L) h = go (before b c) (before d c) refl refl (after-afte
     no e f (inl q) = true≢false (sym f ∙ ap (λ x. before x c) q ∙ e)
     no e f (inr q) = true≢false (sym (true-before (before-trans q (before-true d c f))) ∙ e)
 
-    go : (t u : Bool) → before b c ≡ t → before d c ≡ u → after d (after b L) ≡ after d L → after d (pick t (c ∷ after b L) (after b L)) ≡ pick u (c ∷ after d L) (after d L)
+    go : (t u : Bool) → before b c ≡ t → before d c ≡ u → after d (after b L) ≡ after d L → after d (cond t (c ∷ after b L) (after b L)) ≡ cond u (c ∷ after d L) (after d L)
     go true true e f i = rw f (ap (_∷_ c) i)
     go true false e f i = rw f i
     go false true e f i = absurd (no e f h)
@@ -73,7 +73,7 @@ unfolding after
 after-map x b [] = refl
 after-map x b (c ∷ L) = rw (before-same x b c, after-map x b L) (go (before b c))
   where
-    go : (t : Bool) → pick t ((x ∷ c) ∷ map (_∷_ x) (after b L)) (map (_∷_ x) (after b L)) ≡ map (_∷_ x) (pick t (c ∷ after b L) (after b L))
+    go : (t : Bool) → cond t ((x ∷ c) ∷ map (_∷_ x) (after b L)) (map (_∷_ x) (after b L)) ≡ map (_∷_ x) (cond t (c ∷ after b L) (after b L))
     go true = refl
     go false = refl
 

@@ -1,7 +1,7 @@
 -- Where no way is: the laws by which a search may leave a person out.
 use mathlib.Core.Path.{_≡_, refl, sym, ap, subst, _∙_, fun-ext}
 use mathlib.Core.Logic.{_≢_, _⊎_, inl, inr}
-use mathlib.Core.Bool.{Bool, true, false}
+use mathlib.Core.Bool.{Bool, true, false, cond}
 use mathlib.Core.List.{List, [], _∷_, _++_, flatMap, List·Memᴰ·head, List·Memᴰ·tail, List·Memᴰ·cases-cons, List·Memᴰ·eq-of-singleton}
 use Prim.Native.Nat.{ℕ, zero, suc, _≤_, _<_}
 use native.Mathlib.Omega.{arith}
@@ -9,7 +9,7 @@ use native.Mathlib.Nat.{le-refl}
 use native.Mathlib.Decide.{ℕ-discrete}
 use lib.ListN.{length}
 use borrow.Author.Tests.{eq-eqb, ne-eqb}
-use Rattle.ways.specs.Graph.{Graph, _∈_, pick, among}
+use Rattle.ways.specs.Graph.{Graph, _∈_, among}
 use Rattle.ways.specs.Order.{Rising}
 use Rattle.ways.specs.Listing.{by, ways}
 use Rattle.ways.proofs.Members.{among-true, mem-among, among-false, out-among, out, Within, within-cons, swap, flatMap-append, mem-split}
@@ -107,7 +107,7 @@ pub by-none : (t v : ℕ) (seen : List ℕ) (on : List ℕ → ℕ → List (Lis
 unfolding by
 by-none t v seen on n e = rw (ne-eqb v t n, e) (go (among v seen))
   where
-    go : (c : Bool) → _≡_ {A = List (List ℕ)} (pick c [] []) []
+    go : (c : Bool) → _≡_ {A = List (List ℕ)} (cond c [] []) []
     go true = refl
     go false = refl
 

@@ -1,7 +1,7 @@
 -- The computed `fewest` is the fewest hops, at most k, else k+1; and what a search may leave out by it.
 use mathlib.Core.Path.{_≡_, refl, sym, subst}
 use mathlib.Core.Logic.{_≢_, _↔_}
-use mathlib.Core.Bool.{Bool, true, false}
+use mathlib.Core.Bool.{Bool, true, false, cond}
 use mathlib.Core.List.{List, [], _∷_, _++_, map, List·Memᴰ·head, List·Memᴰ·tail, Memᴰ·map, Memᴰ·of-map, Memᴰ·cast}
 use Prim.Native.Nat.{ℕ, zero, suc, _+_, _≤_, _<_}
 use native.Mathlib.Omega.{arith}
@@ -10,7 +10,7 @@ use native.Mathlib.Decide.{decLe}
 use lib.ListN.{length, length-append}
 use lib.Dec.{eqb}
 use borrow.Author.Tests.{eqb-true, eq-eqb}
-use Rattle.ways.specs.Graph.{Graph, _∈_, pick}
+use Rattle.ways.specs.Graph.{Graph, _∈_}
 use Rattle.ways.specs.Chain.{Last, Linked, Chain}
 use Rattle.ways.specs.Listing.{ways}
 use Rattle.ways.specs.Fewest.{Reach, here, link, FewestUpTo, lowest, fewest}
@@ -45,12 +45,12 @@ module _ (g : Graph) (t : ℕ) where
   unfolding fewest
   fewest-cap zero p = go (eqb p t)
     where
-      go : (b : Bool) → pick b 0 1 ≤ 1
+      go : (b : Bool) → cond b 0 1 ≤ 1
       go true = omega arith
       go false = omega arith
   fewest-cap (suc k) p = go (eqb p t)
     where
-      go : (b : Bool) → pick b 0 (suc (lowest (suc k) (map (fewest g t k) (g p)))) ≤ suc (suc k)
+      go : (b : Bool) → cond b 0 (suc (lowest (suc k) (map (fewest g t k) (g p)))) ≤ suc (suc k)
       go true = omega arith
       go false = omega (arith, lowest-cap (suc k) (map (fewest g t k) (g p)))
 
@@ -59,12 +59,12 @@ module _ (g : Graph) (t : ℕ) where
   unfolding fewest
   fewest-in zero h p l f = go (eqb p t) refl f
     where
-      go : (b : Bool) → eqb p t ≡ b → pick b 0 1 ≤ h → Reach g t h p
+      go : (b : Bool) → eqb p t ≡ b → cond b 0 1 ≤ h → Reach g t h p
       go true e f = here (eqb-true p t e)
       go false e f = absurd (omega arith)
   fewest-in (suc k) zero p l f = go (eqb p t) refl f
     where
-      go : (b : Bool) → eqb p t ≡ b → pick b 0 (suc (lowest (suc k) (map (fewest g t k) (g p)))) ≤ 0 → Reach g t 0 p
+      go : (b : Bool) → eqb p t ≡ b → cond b 0 (suc (lowest (suc k) (map (fewest g t k) (g p)))) ≤ 0 → Reach g t 0 p
       go true e f = here (eqb-true p t e)
       go false e f = absurd (omega arith)
   fewest-in (suc k) (suc h) p l f = go (eqb p t) refl f (λ v i. fewest-in k h v (omega arith) i)
@@ -74,7 +74,7 @@ module _ (g : Graph) (t : ℕ) where
           let q = Memᴰ·of-map (fewest g t k) (g p) (r .1) in
           link (q .1) (on (q .0) (rw (q .2) (r .2)))
 
-      go : (b : Bool) → eqb p t ≡ b → pick b 0 (suc (lowest (suc k) (map (fewest g t k) (g p)))) ≤ suc h → ((v : ℕ) → fewest g t k v ≤ h → Reach g t h v) → Reach g t (suc h) p
+      go : (b : Bool) → eqb p t ≡ b → cond b 0 (suc (lowest (suc k) (map (fewest g t k) (g p)))) ≤ suc h → ((v : ℕ) → fewest g t k v ≤ h → Reach g t h v) → Reach g t (suc h) p
       go true e f on = here (eqb-true p t e)
       go false e f on = step on (lowest-some (suc k) h (map (fewest g t k) (g p)) (omega arith) (omega arith))
 
@@ -84,7 +84,7 @@ module _ (g : Graph) (t : ℕ) where
   in-fewest zero l (link m r) = absurd (omega arith)
   in-fewest (suc k) {p = p} l (link {h = h} {v = v} m r) = go (eqb p t) (in-fewest k (let i : h ≤ k = omega arith in i) r)
     where
-      go : (b : Bool) → fewest g t k v ≤ h → pick b 0 (suc (lowest (suc k) (map (fewest g t k) (g p)))) ≤ suc h
+      go : (b : Bool) → fewest g t k v ≤ h → cond b 0 (suc (lowest (suc k) (map (fewest g t k) (g p)))) ≤ suc h
       go true i = omega arith
       go false i = omega (arith, some-lowest (suc k) h (Memᴰ·map (fewest g t k) m) i)
 

@@ -1,7 +1,7 @@
 -- Half chains: `halfChains` lists just those of so many hops, in dictionary order; `halves` all of them, shorter first.
 use mathlib.Core.Path.{_≡_, refl, sym, ap, subst}
 use mathlib.Core.Logic.{_≢_, _↔_, _⊎_, inl, inr}
-use mathlib.Core.Bool.{Bool, true, false, false≢true}
+use mathlib.Core.Bool.{Bool, true, false, false≢true, cond}
 use mathlib.Core.List.{List, [], _∷_, _++_, map, List·Memᴰ·head, List·Memᴰ·tail, List·Memᴰ·not-nil, List·Memᴰ·append-cases, List·Memᴰ·eq-of-singleton, Memᴰ·append-left, Memᴰ·append-right, Memᴰ·map}
 use Prim.Native.Nat.{ℕ, zero, suc, _+_, _*_, _/_, _≤_, _<_}
 use native.Mathlib.Omega.{arith}
@@ -10,7 +10,7 @@ use native.Mathlib.Decide.{decLt}
 use lib.ListN.{length}
 use lib.Dec.{eqb}
 use borrow.Author.Tests.{eqb-false, ne-eqb, leb-true, le-leb}
-use Rattle.ways.specs.Graph.{Graph, _∈_, pick, among, keep}
+use Rattle.ways.specs.Graph.{Graph, _∈_, among, keep}
 use Rattle.ways.specs.Chain.{hops}
 use Rattle.ways.specs.Order.{Before, Rising}
 use Rattle.ways.specs.Records.{Fits}
@@ -50,7 +50,7 @@ pub extends-true : (g : Graph) (p q : ℕ) (h : List ℕ) → extends g p (q ∷
 unfolding extends
 extends-true g p q h e = go (among q (g p)) (among p (q ∷ h)) refl refl e
   where
-    go : (a b : Bool) → among q (g p) ≡ a → among p (q ∷ h) ≡ b → pick a (pick b false true) false ≡ true → (q ∈ g p) × (¬ (p ∈ q ∷ h))
+    go : (a b : Bool) → among q (g p) ≡ a → among p (q ∷ h) ≡ b → cond a (cond b false true) false ≡ true → (q ∈ g p) × (¬ (p ∈ q ∷ h))
     go true true i j e = absurd (false≢true e)
     go true false i j e = (among-true q (g p) i, among-false j)
     go false b i j e = absurd (false≢true e)
@@ -79,7 +79,7 @@ module _ (g : Graph) (n s t : ℕ) (apart : s ≢ t) where
           record { last = r .last; linked = (x .0, r .linked); once = (x .1, r .once); apart = out (λ i. o (sym i)) (r .apart); exactly = ap suc (r .exactly) }
 
       step : ((w : List ℕ) → w ∈ halfChains g n s t j → HalfChain g s t j w)
-          → (p : ℕ) × (p ∈ personsBelow n) × (h ∈ pick (eqb p s) [] (map (_∷_ p) (keep (extends g p) (halfChains g n s t j)))) → HalfChain g s t (suc j) h
+          → (p : ℕ) × (p ∈ personsBelow n) × (h ∈ cond (eqb p s) [] (map (_∷_ p) (keep (extends g p) (halfChains g n s t j)))) → HalfChain g s t (suc j) h
       step on q =
           let r = unless-from (q .0) (keep (extends g (q .0)) (halfChains g n s t j)) (eqb (q .0) s) (q .2) in
           let x = keep-from (extends g (q .0)) (halfChains g n s t j) (r .2) in

@@ -1,7 +1,7 @@
 -- The join: a chain of L hops splits at one place only, every pair of halves that meet is a chain, and the joined list is the chains of L hops in dictionary order.
 use mathlib.Core.Path.{_≡_, refl, sym, ap, ap₂, subst, subst₂, _∙_, fun-ext}
 use mathlib.Core.Logic.{_≢_, _⊎_, inl, inr}
-use mathlib.Core.Bool.{Bool, true, false, false≢true}
+use mathlib.Core.Bool.{Bool, true, false, false≢true, cond}
 use mathlib.Core.List.{List, [], _∷_, _++_, List·Memᴰ·head, List·Memᴰ·tail, List·Memᴰ·not-nil, List·Memᴰ·cases-cons, Memᴰ·map, Memᴰ·of-map, Memᴰ·cast}
 use Prim.Native.Nat.{ℕ, suc, _+_, _/_, _≤_, _<_}
 use native.Mathlib.Omega.{arith}
@@ -9,7 +9,7 @@ use lib.ListN.{length, getD, take, drop, length-append}
 use lib.Seq.{split-at, append-snoc, take-at, drop-at, length-take-le}
 use lib.Dec.{eqb}
 use borrow.Author.Tests.{eqb-true, eq-eqb}
-use Rattle.ways.specs.Graph.{Graph, _∈_, pick, among, keep}
+use Rattle.ways.specs.Graph.{Graph, _∈_, among, keep}
 use Rattle.ways.specs.Chain.{Last, Distinct, hops, Chain}
 use Rattle.ways.specs.Order.{Before, less, same, Rising}
 use Rattle.ways.specs.Portions.{lastOr, left}
@@ -41,7 +41,7 @@ unfolding noneAmong
 noneAmong-true [] b e x m = absurd (List·Memᴰ·not-nil m)
 noneAmong-true (y ∷ a) b e x m = go (among y b) refl e (λ i. noneAmong-true a b i x) (List·Memᴰ·cases-cons m)
   where
-    go : (t : Bool) → among y b ≡ t → pick t false (noneAmong a b) ≡ true → (noneAmong a b ≡ true → x ∈ a → ¬ (x ∈ b)) → (x ≡ y) ⊎ (x ∈ a) → ¬ (x ∈ b)
+    go : (t : Bool) → among y b ≡ t → cond t false (noneAmong a b) ≡ true → (noneAmong a b ≡ true → x ∈ a → ¬ (x ∈ b)) → (x ≡ y) ⊎ (x ∈ a) → ¬ (x ∈ b)
     go true h i on q j = absurd (false≢true i)
     go false h i on (inl e) j = among-false h (Memᴰ·cast (sym e) j)
     go false h i on (inr n) j = on i n j
@@ -57,7 +57,7 @@ meets-true l [] e = absurd (false≢true e)
 meets-true [] (m ∷ h) e = absurd (false≢true e)
 meets-true (p ∷ l) (m ∷ h) e = go (eqb (lastOr p l) m) refl e
   where
-    go : (t : Bool) → eqb (lastOr p l) m ≡ t → pick t (noneAmong h (p ∷ l)) false ≡ true → Last m (p ∷ l) × ((x : ℕ) → x ∈ h → ¬ (x ∈ p ∷ l))
+    go : (t : Bool) → eqb (lastOr p l) m ≡ t → cond t (noneAmong h (p ∷ l)) false ≡ true → Last m (p ∷ l) × ((x : ℕ) → x ∈ h → ¬ (x ∈ p ∷ l))
     go true i e = (subst (λ x. Last x (p ∷ l)) (eqb-true (lastOr p l) m i) (lastOr-last p l), noneAmong-true h (p ∷ l) e)
     go false i e = absurd (false≢true e)
 

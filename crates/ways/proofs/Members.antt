@@ -1,13 +1,13 @@
 -- Who stands in a list: in a flatMap, in a part of a list, by the test `among`.
 use mathlib.Core.Path.{_≡_, refl, sym, ap, subst, _∙_}
 use mathlib.Core.Logic.{_≢_, _⊎_, inl, inr}
-use mathlib.Core.Bool.{Bool, true, false, true≢false, false≢true}
+use mathlib.Core.Bool.{Bool, true, false, true≢false, false≢true, cond}
 use mathlib.Core.List.{List, [], _∷_, _++_, flatMap, append-assoc, List·Memᴰ·head, List·Memᴰ·tail, List·Memᴰ·not-nil, List·Memᴰ·cases-cons, List·Memᴰ·append-cases, Memᴰ·append-left, Memᴰ·append-right}
 use Prim.Native.Nat.{ℕ, zero, suc}
 use lib.ListN.{take}
 use lib.Dec.{eqb}
 use borrow.Author.Tests.{eqb-true, eq-eqb}
-use Rattle.ways.specs.Graph.{_∈_, pick, among, keep}
+use Rattle.ways.specs.Graph.{_∈_, among, keep}
 
 -- membership in a flatMap
 module _ {A B : Type 0} where
@@ -31,7 +31,7 @@ unfolding among
 among-true p [] e = absurd (false≢true e)
 among-true p (q ∷ l) e = go (eqb p q) refl e (λ i. among-true p l i)
   where
-    go : (b : Bool) → eqb p q ≡ b → pick b true (among p l) ≡ true → (among p l ≡ true → p ∈ l) → p ∈ q ∷ l
+    go : (b : Bool) → eqb p q ≡ b → cond b true (among p l) ≡ true → (among p l ≡ true → p ∈ l) → p ∈ q ∷ l
     go true h i on = List·Memᴰ·head (eqb-true p q h)
     go false h i on = List·Memᴰ·tail (on i)
 
@@ -40,7 +40,7 @@ unfolding among
 mem-among {p} (List·Memᴰ·head {x = q} e) = rw (eq-eqb p q e)
 mem-among {p} (List·Memᴰ·tail {x = q} {xs = l} m) = go (eqb p q) (mem-among m)
   where
-    go : (b : Bool) → among p l ≡ true → pick b true (among p l) ≡ true
+    go : (b : Bool) → among p l ≡ true → cond b true (among p l) ≡ true
     go true h = refl
     go false h = h
 
@@ -100,7 +100,7 @@ module _ {A : Type 0} (f : A → Bool) where
   keep-from [] m = absurd (List·Memᴰ·not-nil m)
   keep-from (y ∷ l) {x} m = go (f y) refl m (λ i. keep-from l i)
     where
-      go : (t : Bool) → f y ≡ t → x ∈ pick t (y ∷ keep f l) (keep f l) → (x ∈ keep f l → (x ∈ l) × (f x ≡ true)) → (x ∈ y ∷ l) × (f x ≡ true)
+      go : (t : Bool) → f y ≡ t → x ∈ cond t (y ∷ keep f l) (keep f l) → (x ∈ keep f l → (x ∈ l) × (f x ≡ true)) → (x ∈ y ∷ l) × (f x ≡ true)
       go true e (List·Memᴰ·head h) on = (List·Memᴰ·head h, ap f h ∙ e)
       go true e (List·Memᴰ·tail i) on = let r = on i in (List·Memᴰ·tail (r .0), r .1)
       go false e i on = let r = on i in (List·Memᴰ·tail (r .0), r .1)
@@ -110,7 +110,7 @@ module _ {A : Type 0} (f : A → Bool) where
   keep-in (List·Memᴰ·head h) e = rw (ap f (sym h) ∙ e) (List·Memᴰ·head h)
   keep-in {x} (List·Memᴰ·tail {x = y} {xs = l} m) e = go (f y) (keep-in m e)
     where
-      go : (t : Bool) → x ∈ keep f l → x ∈ pick t (y ∷ keep f l) (keep f l)
+      go : (t : Bool) → x ∈ keep f l → x ∈ cond t (y ∷ keep f l) (keep f l)
       go true i = List·Memᴰ·tail i
       go false i = i
 
@@ -119,6 +119,6 @@ module _ {A : Type 0} (f : A → Bool) where
   keep-append [] m = refl
   keep-append (x ∷ l) m = go (f x) (keep-append l m)
     where
-      go : (t : Bool) → keep f (l ++ m) ≡ keep f l ++ keep f m → pick t (x ∷ keep f (l ++ m)) (keep f (l ++ m)) ≡ pick t (x ∷ keep f l) (keep f l) ++ keep f m
+      go : (t : Bool) → keep f (l ++ m) ≡ keep f l ++ keep f m → cond t (x ∷ keep f (l ++ m)) (keep f (l ++ m)) ≡ cond t (x ∷ keep f l) (keep f l) ++ keep f m
       go true e = ap (_∷_ x) e
       go false e = e

@@ -1,14 +1,14 @@
 -- Simple sequences of exactly so many hops: the left halves; and the half chains, found from their first person on.
 use mathlib.Core.Path.{_≡_, refl, sym, ap, subst}
 use mathlib.Core.Logic.{_≢_, _↔_, _⊎_, inl, inr}
-use mathlib.Core.Bool.{Bool, true, false}
+use mathlib.Core.Bool.{Bool, true, false, cond}
 use mathlib.Core.List.{List, [], _∷_, map, flatMap, List·Memᴰ·head, List·Memᴰ·tail, List·Memᴰ·not-nil, List·Memᴰ·cases-cons, List·Memᴰ·eq-of-singleton, Memᴰ·map, Memᴰ·of-map, Memᴰ·cast}
 use Prim.Native.Nat.{ℕ, zero, suc, _<_}
 use native.Mathlib.Omega.{arith}
 use lib.ListN.{length}
 use lib.Dec.{eqb}
 use borrow.Author.Tests.{eqb-true, eqb-false, eq-eqb, ne-eqb}
-use Rattle.ways.specs.Graph.{Graph, _∈_, pick, among}
+use Rattle.ways.specs.Graph.{Graph, _∈_, among}
 use Rattle.ways.specs.Chain.{Last, Linked, Distinct}
 use Rattle.ways.specs.Order.{Before, Rising}
 use Rattle.ways.specs.Portions.{lastOr}
@@ -34,7 +34,7 @@ module _ (g : Graph) (ends : ℕ → Bool) where
   unfolding onward
   onward-from zero seen p {w} m = go (ends p) refl m
     where
-      go : (b : Bool) → ends p ≡ b → w ∈ pick b ([] ∷ []) [] → Onward g ends 0 seen p w
+      go : (b : Bool) → ends p ≡ b → w ∈ cond b ([] ∷ []) [] → Onward g ends 0 seen p w
       go true e m = subst (Onward g ends 0 seen p) (sym (List·Memᴰ·eq-of-singleton m)) (record { linked = tt; once = tt; apart = λ x i. absurd (List·Memᴰ·not-nil i); exactly = refl; ending = e })
       go false e m = absurd (List·Memᴰ·not-nil m)
   onward-from (suc i) seen p {w} m = step (λ v u n. onward-from i (v ∷ seen) v n) (flatMap-from _ (g p) m)
@@ -47,7 +47,7 @@ module _ (g : Graph) (ends : ℕ → Bool) where
           apart x (inr q) j = r .apart x q (List·Memᴰ·tail j)
 
       step : ((v : ℕ) (u : List ℕ) → u ∈ onward g ends i (v ∷ seen) v → Onward g ends i (v ∷ seen) v u)
-          → (v : ℕ) × (v ∈ g p) × (w ∈ pick (among v seen) [] (map (_∷_ v) (onward g ends i (v ∷ seen) v))) → Onward g ends (suc i) seen p w
+          → (v : ℕ) × (v ∈ g p) × (w ∈ cond (among v seen) [] (map (_∷_ v) (onward g ends i (v ∷ seen) v))) → Onward g ends (suc i) seen p w
       step on q =
           let v = q .0 in
           let r = unless-from v (onward g ends i (v ∷ seen) v) (among v seen) (q .2) in
@@ -66,7 +66,7 @@ module _ (g : Graph) (ends : ℕ → Bool) where
   unfolding onward
   onward-rising rows zero seen p = go (ends p)
     where
-      go : (b : Bool) → Rising Before (pick b ([] ∷ []) [])
+      go : (b : Bool) → Rising Before (cond b ([] ∷ []) [])
       go true = ((λ y m. absurd (List·Memᴰ·not-nil m)), tt)
       go false = tt
   onward-rising rows (suc i) seen p = unless-row (λ v. among v seen) (λ v. onward g ends i (v ∷ seen) v) (g p) (rows p) (λ v. onward-rising rows i (v ∷ seen) v)
@@ -98,19 +98,19 @@ module _ (g : Graph) (rows : (p : ℕ) → Rising _<_ (g p)) (n : ℕ) (low : (p
   abbrev begun : ℕ → List (List ℕ)
   begun p = onward g (λ q. eqb q t) j (p ∷ s ∷ []) p
 
-  pub halfChains-onward : halfChains g n s t j ≡ flatMap (λ p. pick (eqb p s) [] (map (_∷_ p) (onward g (λ q. eqb q t) j (p ∷ s ∷ []) p))) (personsBelow n)
+  pub halfChains-onward : halfChains g n s t j ≡ flatMap (λ p. cond (eqb p s) [] (map (_∷_ p) (onward g (λ q. eqb q t) j (p ∷ s ∷ []) p))) (personsBelow n)
   halfChains-onward = only Before (λ a b. before-asym) (halfChains g n s t j) (flatMap _ (personsBelow n)) (halfChains-rising g n s t j) rises
       (λ h m. to h (halfChains-from g n s t ne j m))
       (λ h m. from h (flatMap-from _ (personsBelow n) m))
     where
-      rises : Rising Before (flatMap (λ p. pick (eqb p s) [] (map (_∷_ p) (begun p))) (personsBelow n))
+      rises : Rising Before (flatMap (λ p. cond (eqb p s) [] (map (_∷_ p) (begun p))) (personsBelow n))
       rises = unless-row (λ p. eqb p s) begun (personsBelow n) (persons-rising n) (λ p. onward-rising g (λ q. eqb q t) rows j (p ∷ s ∷ []) p)
 
       below : (p : ℕ) (w : List ℕ) → Linked g (p ∷ w) → Last t (p ∷ w) → p < n
       below p [] l e = omega (arith, e)
       below p (q ∷ w) l e = low p q (l .0)
 
-      to : (h : List ℕ) → HalfChain g s t j h → h ∈ flatMap (λ p. pick (eqb p s) [] (map (_∷_ p) (begun p))) (personsBelow n)
+      to : (h : List ℕ) → HalfChain g s t j h → h ∈ flatMap (λ p. cond (eqb p s) [] (map (_∷_ p) (begun p))) (personsBelow n)
       to [] r = absurd (r .last)
       to (p ∷ w) r =
           flatMap-in _ (below-persons n p (below p w (r .linked) (r .last)))
@@ -120,7 +120,7 @@ module _ (g : Graph) (rows : (p : ℕ) → Rising _<_ (g p)) (n : ℕ) (low : (p
       put : (p : ℕ) (w : List ℕ) → p ≢ s → Onward g (λ q. eqb q t) j (p ∷ s ∷ []) p w → HalfChain g s t j (p ∷ w)
       put p w o r = record { last = subst (λ x. Last x (p ∷ w)) (eqb-true (lastOr p w) t (r .ending)) (lastOr-last p w); linked = r .linked; once = (λ i. r .apart p i (List·Memᴰ·head refl), r .once); apart = out (λ e. o (sym e)) (λ i. r .apart s i (List·Memᴰ·tail (List·Memᴰ·head refl))); exactly = r .exactly }
 
-      from : (h : List ℕ) → (p : ℕ) × (p ∈ personsBelow n) × (h ∈ pick (eqb p s) [] (map (_∷_ p) (begun p))) → h ∈ halfChains g n s t j
+      from : (h : List ℕ) → (p : ℕ) × (p ∈ personsBelow n) × (h ∈ cond (eqb p s) [] (map (_∷_ p) (begun p))) → h ∈ halfChains g n s t j
       from h q =
           let p = q .0 in
           let r = unless-from p (begun p) (eqb p s) (q .2) in

@@ -1,14 +1,14 @@
 -- Dictionary order is an order; `listing` rises in it, and is the only such list.
 use mathlib.Core.Path.{_≡_, refl, sym, subst₂, _∙_}
 use mathlib.Core.Logic.{_≢_, _↔_}
-use mathlib.Core.Bool.{Bool, true, false, false≢true}
+use mathlib.Core.Bool.{Bool, true, false, false≢true, cond}
 use mathlib.Core.List.{List, [], _∷_, _++_, map, flatMap, List·Memᴰ·not-nil, List·Memᴰ·eq-of-singleton, Memᴰ·of-map}
 use Prim.Native.Nat.{ℕ, zero, suc, _<_}
 use native.Mathlib.Omega.{arith}
 use lib.ListN.{length}
 use lib.Dec.{eqb, ltb}
 use borrow.Author.Tests.{eqb-true, eq-eqb, ltb-true, lt-ltb, le-ltb}
-use Rattle.ways.specs.Graph.{Graph, _∈_, pick, among}
+use Rattle.ways.specs.Graph.{Graph, _∈_, among}
 use Rattle.ways.specs.Chain.{Distinct, Chain}
 use Rattle.ways.specs.Order.{Before, short, less, same, before, Rising}
 use Rattle.ways.specs.Listing.{by, ways, listing}
@@ -37,7 +37,7 @@ before-true a [] e = absurd (false≢true e)
 before-true [] (y ∷ b) e = short
 before-true (x ∷ a) (y ∷ b) e = go (ltb x y) (eqb x y) refl refl e (λ h. before-true a b h)
   where
-    go : (l m : Bool) → ltb x y ≡ l → eqb x y ≡ m → pick l true (pick m (before a b) false) ≡ true → (before a b ≡ true → Before a b) → Before (x ∷ a) (y ∷ b)
+    go : (l m : Bool) → ltb x y ≡ l → eqb x y ≡ m → cond l true (cond m (before a b) false) ≡ true → (before a b ≡ true → Before a b) → Before (x ∷ a) (y ∷ b)
     go true m h i e on = less (ltb-true x y h)
     go false true h i e on = same (eqb-true x y i) (on e)
     go false false h i e on = absurd (false≢true e)
@@ -83,19 +83,19 @@ rising-flatMap f row r all heads = rising-across _<_ Before f row r (λ x m. all
 
 -- those that begin with v, unless a test forbids it
 module _ (v : ℕ) (M : List (List ℕ)) where
-  pub unless-from : (b : Bool) {c : List ℕ} → c ∈ pick b [] (map (_∷_ v) M) → (b ≡ false) × (w : List ℕ) × (w ∈ M) × (v ∷ w ≡ c)
+  pub unless-from : (b : Bool) {c : List ℕ} → c ∈ cond b [] (map (_∷_ v) M) → (b ≡ false) × (w : List ℕ) × (w ∈ M) × (v ∷ w ≡ c)
   unless-from true m = absurd (List·Memᴰ·not-nil m)
   unless-from false m = let r = Memᴰ·of-map (_∷_ v) M m in (refl, r .0, r .1, r .2)
 
-  pub unless-heads : (b : Bool) → Heads v (pick b [] (map (_∷_ v) M))
+  pub unless-heads : (b : Bool) → Heads v (cond b [] (map (_∷_ v) M))
   unless-heads b c m = let r = unless-from b m in (r .1, sym (r .3))
 
-  pub unless-rising : (b : Bool) → Rising Before M → Rising Before (pick b [] (map (_∷_ v) M))
+  pub unless-rising : (b : Bool) → Rising Before M → Rising Before (cond b [] (map (_∷_ v) M))
   unless-rising true r = tt
   unless-rising false r = rising-map v M r
 
 -- so for each person of a rising row
-pub unless-row : (f : ℕ → Bool) (M : ℕ → List (List ℕ)) (row : List ℕ) → Rising _<_ row → ((v : ℕ) → Rising Before (M v)) → Rising Before (flatMap (λ v. pick (f v) [] (map (_∷_ v) (M v))) row)
+pub unless-row : (f : ℕ → Bool) (M : ℕ → List (List ℕ)) (row : List ℕ) → Rising _<_ row → ((v : ℕ) → Rising Before (M v)) → Rising Before (flatMap (λ v. cond (f v) [] (map (_∷_ v) (M v))) row)
 unless-row f M row r all = rising-flatMap _ row r (λ v. unless-rising v (M v) (f v) (all v)) (λ v. unless-heads v (M v) (f v))
 
 -- `by`: all begin with v, and rise
@@ -103,7 +103,7 @@ pub by-heads : (t : ℕ) (seen : List ℕ) (on : List ℕ → ℕ → List (List
 unfolding by
 by-heads t seen on v c m = go (eqb v t) m
   where
-    go : (l : Bool) → c ∈ pick l ((v ∷ []) ∷ []) (pick (among v seen) [] (map (_∷_ v) (on (v ∷ seen) v))) → (w : List ℕ) × (c ≡ v ∷ w)
+    go : (l : Bool) → c ∈ cond l ((v ∷ []) ∷ []) (cond (among v seen) [] (map (_∷_ v) (on (v ∷ seen) v))) → (w : List ℕ) × (c ≡ v ∷ w)
     go true m = ([], List·Memᴰ·eq-of-singleton m)
     go false m = unless-heads v (on (v ∷ seen) v) (among v seen) c m
 
@@ -111,7 +111,7 @@ pub by-rising : (t : ℕ) (seen : List ℕ) (on : List ℕ → ℕ → List (Lis
 unfolding by
 by-rising t seen on v r = go (eqb v t)
   where
-    go : (l : Bool) → Rising Before (pick l ((v ∷ []) ∷ []) (pick (among v seen) [] (map (_∷_ v) (on (v ∷ seen) v))))
+    go : (l : Bool) → Rising Before (cond l ((v ∷ []) ∷ []) (cond (among v seen) [] (map (_∷_ v) (on (v ∷ seen) v))))
     go true = ((λ y m. absurd (List·Memᴰ·not-nil m)), tt)
     go false = unless-rising v (on (v ∷ seen) v) (among v seen) r
 

@@ -1,7 +1,7 @@
 -- Records: a record tells its chain, has its size, and is known by its shape; records laid end to end tell their list.
 use mathlib.Core.Path.{_≡_, refl, sym, ap, ap₂, subst, _∙_}
 use mathlib.Core.Logic.{_≢_, _↔_}
-use mathlib.Core.Bool.{Bool, true, false, false≢true}
+use mathlib.Core.Bool.{Bool, true, false, false≢true, cond}
 use mathlib.Core.List.{List, [], _∷_, _++_, append-assoc, cons≢nil, List·Memᴰ·head, List·Memᴰ·tail, Memᴰ·of-map, Memᴰ·cast}
 use Prim.Native.Nat.{ℕ, suc, _+_, _-_, _*_, _≤_, _<_}
 use native.Mathlib.Omega.{arith}
@@ -10,7 +10,7 @@ use lib.ListN.{length, take, drop, replicate, length-append, length-drop, length
 use lib.Seq.{take-at, drop-at, drop-append-seam, length-take-le}
 use lib.Dec.{eqb}
 use borrow.Author.Tests.{eqb-true, eq-eqb}
-use Rattle.ways.specs.Graph.{Graph, _∈_, pick}
+use Rattle.ways.specs.Graph.{Graph, _∈_}
 use Rattle.ways.specs.Chain.{hops, Chain}
 use Rattle.ways.specs.Listing.{ways, listing}
 use Rattle.ways.specs.Records.{recordOf, chainOf, Fits, Shaped, cellsOf, roomOf, written, sameCells, isRecordIn}
@@ -137,7 +137,7 @@ sameCells-true [] (y ∷ b) e = absurd (false≢true e)
 sameCells-true (x ∷ a) [] e = absurd (false≢true e)
 sameCells-true (x ∷ a) (y ∷ b) e = go (eqb x y) refl e (λ i. sameCells-true a b i)
   where
-    go : (t : Bool) → eqb x y ≡ t → pick t (sameCells a b) false ≡ true → (sameCells a b ≡ true → a ≡ b) → x ∷ a ≡ y ∷ b
+    go : (t : Bool) → eqb x y ≡ t → cond t (sameCells a b) false ≡ true → (sameCells a b ≡ true → a ≡ b) → x ∷ a ≡ y ∷ b
     go true h i on = ap₂ _∷_ (eqb-true x y h) (on i)
     go false h i on = absurd (false≢true i)
 
@@ -154,7 +154,7 @@ isRecordIn-true size (c ∷ L) cells e = go (sameCells cells (recordOf size c)) 
     Found : List (List ℕ) → Type 0
     Found M = (d : List ℕ) × (d ∈ M) × (cells ≡ recordOf size d)
 
-    go : (t : Bool) → sameCells cells (recordOf size c) ≡ t → pick t true (isRecordIn size L cells) ≡ true → (isRecordIn size L cells ≡ true → Found L) → Found (c ∷ L)
+    go : (t : Bool) → sameCells cells (recordOf size c) ≡ t → cond t true (isRecordIn size L cells) ≡ true → (isRecordIn size L cells ≡ true → Found L) → Found (c ∷ L)
     go true h i on = (c, List·Memᴰ·head refl, sameCells-true cells (recordOf size c) h)
     go false h i on = let r = on i in (r .0, List·Memᴰ·tail (r .1), r .2)
 
@@ -163,7 +163,7 @@ unfolding isRecordIn
 true-isRecordIn size cells {c} (List·Memᴰ·head {x = d} e) h = rw (h, ap (recordOf size) e, sameCells-refl (recordOf size d))
 true-isRecordIn size cells (List·Memᴰ·tail {x = d} {xs = L} m) h = go (sameCells cells (recordOf size d)) (true-isRecordIn size cells m h)
   where
-    go : (t : Bool) → isRecordIn size L cells ≡ true → pick t true (isRecordIn size L cells) ≡ true
+    go : (t : Bool) → isRecordIn size L cells ≡ true → cond t true (isRecordIn size L cells) ≡ true
     go true e = refl
     go false e = e
 

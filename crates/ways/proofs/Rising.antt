@@ -1,9 +1,9 @@
 -- Lists that rise in an order: nothing stands there twice, and the members determine the list.
 use mathlib.Core.Path.{_≡_, refl, sym, ap₂, subst, _∙_}
 use mathlib.Core.Logic.{_⊎_, inl, inr}
-use mathlib.Core.Bool.{Bool, true, false}
+use mathlib.Core.Bool.{Bool, true, false, cond}
 use mathlib.Core.List.{List, [], _∷_, _++_, map, flatMap, List·Memᴰ·head, List·Memᴰ·tail, List·Memᴰ·not-nil, List·Memᴰ·cases-cons, List·Memᴰ·append-cases, Memᴰ·append-right, Memᴰ·of-map}
-use Rattle.ways.specs.Graph.{_∈_, pick, keep}
+use Rattle.ways.specs.Graph.{_∈_, keep}
 use Rattle.ways.specs.Chain.{Distinct}
 use Rattle.ways.specs.Order.{Rising}
 use Rattle.ways.proofs.Members.{flatMap-from, keep-from}
@@ -85,7 +85,7 @@ module _ {A : Type 0} (R : A → A → Type 0) where
   rising-keep f [] r = tt
   rising-keep f (x ∷ l) r = go (f x) (rising-keep f l (r .1))
     where
-      go : (t : Bool) → Rising R (keep f l) → Rising R (pick t (x ∷ keep f l) (keep f l))
+      go : (t : Bool) → Rising R (keep f l) → Rising R (cond t (x ∷ keep f l) (keep f l))
       go true q = ((λ y m. r .0 y (keep-from f l m .0)), q)
       go false q = q
 

@@ -1,12 +1,12 @@
 -- The ways from a person on, as a predicate; and that `ways` lists just those.
 use mathlib.Core.Path.{_≡_, refl, subst}
 use mathlib.Core.Logic.{_≢_, _⊎_, inl, inr}
-use mathlib.Core.Bool.{Bool, true, false}
+use mathlib.Core.Bool.{Bool, true, false, cond}
 use mathlib.Core.List.{List, [], _∷_, map, List·Memᴰ·head, List·Memᴰ·not-nil, List·Memᴰ·eq-of-singleton, Memᴰ·map, Memᴰ·of-map}
 use Prim.Native.Nat.{ℕ, zero, suc}
 use lib.Dec.{eqb}
 use borrow.Author.Tests.{eqb-true, eqb-false, eq-eqb, ne-eqb}
-use Rattle.ways.specs.Graph.{Graph, _∈_, pick, among}
+use Rattle.ways.specs.Graph.{Graph, _∈_, among}
 use Rattle.ways.specs.Listing.{by, ways}
 use Rattle.ways.proofs.Members.{flatMap-in, flatMap-from, among-false, out-among}
 
@@ -32,7 +32,7 @@ by-from : (t v : ℕ) (seen : List ℕ) (on : List ℕ → ℕ → List (List �
 unfolding by By
 by-from t v seen on {y} m = go (eqb v t) (among v seen) refl refl m
   where
-    go : (b c : Bool) → eqb v t ≡ b → among v seen ≡ c → y ∈ pick b ((v ∷ []) ∷ []) (pick c [] (map (_∷_ v) (on (v ∷ seen) v))) → By t v seen on y
+    go : (b c : Bool) → eqb v t ≡ b → among v seen ≡ c → y ∈ cond b ((v ∷ []) ∷ []) (cond c [] (map (_∷_ v) (on (v ∷ seen) v))) → By t v seen on y
     go true c h i m = inl (eqb-true v t h, List·Memᴰ·eq-of-singleton m)
     go false true h i m = absurd (List·Memᴰ·not-nil m)
     go false false h i m = let r = Memᴰ·of-map (_∷_ v) (on (v ∷ seen) v) m in inr (eqb-false v t h, among-false i, r .0, r .1, r .2)

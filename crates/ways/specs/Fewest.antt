@@ -1,10 +1,11 @@
 -- The fewest hops to the end person. Definitions only.
 -- "Fewest hops: from any person p to To over admitted links, at most k, else k+1. To itself answers 0."
 use mathlib.Core.Path.{_≡_}
+use mathlib.Core.Bool.{cond}
 use mathlib.Core.List.{List, [], _∷_, map}
 use Prim.Native.Nat.{ℕ, zero, suc, _≤_, _<_, min}
 use lib.Dec.{eqb}
-use Rattle.ways.specs.Graph.{Graph, _∈_, pick}
+use Rattle.ways.specs.Graph.{Graph, _∈_}
 
 -- p reaches t within h hops; a way may pass a person twice, and From too
 pub data Reach (g : Graph) (t : ℕ) : ℕ → ℕ → Type 0 where
@@ -29,5 +30,5 @@ lowest cap (d ∷ ds) = min d (lowest cap ds)
 
 -- the same as a number that can be computed: To itself answers 0, another one more than the lowest over his links
 unfoldable pub fewest : Graph → ℕ → ℕ → ℕ → ℕ
-fewest g t zero p = pick (eqb p t) 0 1
-fewest g t (suc k) p = pick (eqb p t) 0 (suc (lowest (suc k) (map (fewest g t k) (g p))))
+fewest g t zero p = cond (eqb p t) 0 1
+fewest g t (suc k) p = cond (eqb p t) 0 (suc (lowest (suc k) (map (fewest g t k) (g p))))

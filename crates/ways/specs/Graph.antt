@@ -1,5 +1,5 @@
 -- Persons and the links between them. Definitions only.
-use mathlib.Core.Bool.{Bool, true, false}
+use mathlib.Core.Bool.{Bool, true, false, cond}
 use mathlib.Core.List.{List, [], _∷_, List·Memᴰ}
 use Prim.Native.Nat.{ℕ}
 use lib.Dec.{eqb}
@@ -13,17 +13,12 @@ infix 50 _∈_
 abbrev pub _∈_ {ℓ} : {A : Type ℓ} → A → List A → Type ℓ
 x ∈ l = List·Memᴰ x l
 
--- the one where the test holds, else the other
-abbrev pub pick {ℓ} : {A : Type ℓ} → Bool → A → A → A
-pick true a b = a
-pick false a b = b
-
 -- whether p is among the persons
 unfoldable pub among : ℕ → List ℕ → Bool
 among p [] = false
-among p (q ∷ qs) = pick (eqb p q) true (among p qs)
+among p (q ∷ qs) = cond (eqb p q) true (among p qs)
 
 -- those of l that pass the test
 unfoldable pub keep : {A : Type 0} → (A → Bool) → List A → List A
 keep f [] = []
-keep f (x ∷ l) = pick (f x) (x ∷ keep f l) (keep f l)
+keep f (x ∷ l) = cond (f x) (x ∷ keep f l) (keep f l)

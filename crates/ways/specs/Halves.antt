@@ -1,12 +1,12 @@
 -- Half chains. Definitions only.
 -- "half chains are the simple admitted sequences of 0 to k/2 hops (rounded down) ending at To and not visiting From, also (To) alone."
 use mathlib.Core.Path.{_≡_}
-use mathlib.Core.Bool.{Bool, true, false}
+use mathlib.Core.Bool.{Bool, true, false, cond}
 use mathlib.Core.List.{List, [], _∷_, _++_, map, flatMap}
 use Prim.Native.Nat.{ℕ, zero, suc, _/_}
 use lib.ListN.{length}
 use lib.Dec.{eqb, leb}
-use Rattle.ways.specs.Graph.{Graph, _∈_, pick, among, keep}
+use Rattle.ways.specs.Graph.{Graph, _∈_, among, keep}
 use Rattle.ways.specs.Chain.{Last, Linked, Distinct, hops}
 use Rattle.ways.specs.Records.{roomOf}
 use Rattle.ways.specs.ByHops.{shorterFirst}
@@ -27,13 +27,13 @@ personsBelow (suc n) = personsBelow n ++ (n ∷ [])
 -- whether p may stand in front of h: a link of p leads to the first of h, and p does not stand in h
 unfoldable pub extends : Graph → ℕ → List ℕ → Bool
 extends g p [] = false
-extends g p (q ∷ h) = pick (among q (g p)) (pick (among p (q ∷ h)) false true) false
+extends g p (q ∷ h) = cond (among q (g p)) (cond (among p (q ∷ h)) false true) false
 
 -- "Half chains are built by a recursion on their hops": those of exactly j hops, in dictionary order.
 -- (To) alone has no hop; for one hop more, each person but From is put in front of those before whom he may stand.
 unfoldable pub halfChains : Graph → ℕ → ℕ → ℕ → ℕ → List (List ℕ)
 halfChains g n s t zero = (t ∷ []) ∷ []
-halfChains g n s t (suc j) = flatMap (λ p. pick (eqb p s) [] (map (_∷_ p) (keep (extends g p) (halfChains g n s t j)))) (personsBelow n)
+halfChains g n s t (suc j) = flatMap (λ p. cond (eqb p s) [] (map (_∷_ p) (keep (extends g p) (halfChains g n s t j)))) (personsBelow n)
 
 -- all of them for a question of k hops: "shorter first, then in dictionary order"
 abbrev pub halves : Graph → ℕ → ℕ → ℕ → ℕ → List (List ℕ)

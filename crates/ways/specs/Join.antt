@@ -1,11 +1,11 @@
 -- Joining half chains. Definitions only.
 -- "A chain of L hops splits at one place only: the left half has L/2 hops rounded up, the right half the rest, and they share only the middle person."
 use mathlib.Core.Path.{_≡_}
-use mathlib.Core.Bool.{Bool, true, false}
+use mathlib.Core.Bool.{Bool, true, false, cond}
 use mathlib.Core.List.{List, [], _∷_, _++_, map, flatMap}
 use Prim.Native.Nat.{ℕ, zero, suc, _+_, _-_, _/_}
 use lib.Dec.{eqb}
-use Rattle.ways.specs.Graph.{Graph, _∈_, pick, among, keep}
+use Rattle.ways.specs.Graph.{Graph, _∈_, among, keep}
 use Rattle.ways.specs.Chain.{First, Last, Linked, Distinct, hops}
 use Rattle.ways.specs.Portions.{lastOr}
 use Rattle.ways.specs.Halves.{HalfChain, halfChains}
@@ -27,8 +27,8 @@ pub record LeftHalf (g : Graph) (s i : ℕ) (l : List ℕ) : Type 0 where
 
 -- all simple sequences of exactly i hops on from p that pass nobody seen and end as the test says, in dictionary order
 unfoldable pub onward : Graph → (ℕ → Bool) → ℕ → List ℕ → ℕ → List (List ℕ)
-onward g ends zero seen p = pick (ends p) ([] ∷ []) []
-onward g ends (suc i) seen p = flatMap (λ v. pick (among v seen) [] (map (_∷_ v) (onward g ends i (v ∷ seen) v))) (g p)
+onward g ends zero seen p = cond (ends p) ([] ∷ []) []
+onward g ends (suc i) seen p = flatMap (λ v. cond (among v seen) [] (map (_∷_ v) (onward g ends i (v ∷ seen) v))) (g p)
 
 -- the left halves of exactly i hops, in dictionary order: they may end anywhere
 unfoldable pub leftHalves : Graph → ℕ → ℕ → List (List ℕ)
@@ -42,13 +42,13 @@ Meets l (m ∷ h) = Last m l × ((x : ℕ) → x ∈ h → ¬ (x ∈ l))
 -- whether nobody of a stands in b
 unfoldable pub noneAmong : List ℕ → List ℕ → Bool
 noneAmong [] b = true
-noneAmong (x ∷ a) b = pick (among x b) false (noneAmong a b)
+noneAmong (x ∷ a) b = cond (among x b) false (noneAmong a b)
 
 -- the same as a test that computes
 unfoldable pub meets : List ℕ → List ℕ → Bool
 meets l [] = false
 meets [] (m ∷ h) = false
-meets (p ∷ l) (m ∷ h) = pick (eqb (lastOr p l) m) (noneAmong h (p ∷ l)) false
+meets (p ∷ l) (m ∷ h) = cond (eqb (lastOr p l) m) (noneAmong h (p ∷ l)) false
 
 -- the two halves put together: the middle person stands once
 abbrev pub glue : List ℕ → List ℕ → List ℕ

@@ -5,6 +5,7 @@ pub mod Order
 pub mod Listing
 pub mod Portions
 pub mod Records
+pub mod Sizes
 pub mod Fewest
 pub mod ByHops
 pub mod Halves

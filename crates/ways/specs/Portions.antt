@@ -1,18 +1,17 @@
 -- Listing in portions: each starts after the last chain that was handed over. Definitions only.
 -- "It writes the first r chains after the bookmark, or all if fewer, and answers how many, and whether the listing has ended."
-use mathlib.Core.Bool.{Bool}
+use mathlib.Core.Bool.{Bool, cond}
 use mathlib.Core.List.{List, [], _∷_, _++_}
 use Prim.Native.Nat.{ℕ, _+_}
 use lib.ListN.{length, take}
 use lib.Dec.{leb}
-use Rattle.ways.specs.Graph.{pick}
 use Rattle.ways.specs.Order.{before}
 
 -- the chains of L that stand after the bookmark b in dictionary order.
 -- The bookmark [] stands before every chain: it is the fresh start.
 unfoldable pub after : List ℕ → List (List ℕ) → List (List ℕ)
 after b [] = []
-after b (c ∷ L) = pick (before b c) (c ∷ after b L) (after b L)
+after b (c ∷ L) = cond (before b c) (c ∷ after b L) (after b L)
 
 -- "the first r chains after the bookmark, or all if fewer"
 abbrev pub portion : ℕ → List ℕ → List (List ℕ) → List (List ℕ)

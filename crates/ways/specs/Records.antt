@@ -1,12 +1,11 @@
 -- A chain in cells. The record size is ten cells today; every definition here takes any size. Definitions only.
 -- "A chain record has ten 32-bit cells: the hops L, then L+1 persons, then zeros."
 use mathlib.Core.Path.{_≡_}
-use mathlib.Core.Bool.{Bool, true, false}
+use mathlib.Core.Bool.{Bool, true, false, cond}
 use mathlib.Core.List.{List, [], _∷_, _++_}
 use Prim.Native.Nat.{ℕ, suc, _+_, _-_, _*_, _/_, _≤_, _<_}
 use lib.ListN.{length, getD, take, drop, replicate}
 use lib.Dec.{eqb}
-use Rattle.ways.specs.Graph.{pick}
 use Rattle.ways.specs.Chain.{hops}
 
 -- the record of a chain
@@ -47,9 +46,9 @@ unfoldable pub sameCells : List ℕ → List ℕ → Bool
 sameCells [] [] = true
 sameCells [] (y ∷ b) = false
 sameCells (x ∷ a) [] = false
-sameCells (x ∷ a) (y ∷ b) = pick (eqb x y) (sameCells a b) false
+sameCells (x ∷ a) (y ∷ b) = cond (eqb x y) (sameCells a b) false
 
 -- refusal 17, turned round: whether the cells are the record of a chain of L
 unfoldable pub isRecordIn : ℕ → List (List ℕ) → List ℕ → Bool
 isRecordIn size [] cells = false
-isRecordIn size (c ∷ L) cells = pick (sameCells cells (recordOf size c)) true (isRecordIn size L cells)
+isRecordIn size (c ∷ L) cells = cond (sameCells cells (recordOf size c)) true (isRecordIn size L cells)

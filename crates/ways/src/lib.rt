@@ -1,5 +1,11 @@
-// The pure mathematics of chains: no bytes, no search, no code.
+// The pure mathematics of chains: no bytes, no search, no code but the two numbers of the product.
 // specs/ says what a chain, a listing, a portion, a record and a half chain are, over a graph that is
 // any function from a person to the persons that he has links to. proofs/ has the laws that all rooms cite:
 // the listing holds every chain and nothing else, in dictionary order, and no other list does; portions
 // laid end to end give it back; half chains join to it; and a search may leave out what has no way to the end.
+
+// A chain record has ten cells: the hops, the persons, zeros.
+pub const RECORD: usize = 10;
+
+// A chain has at most eight hops.
+pub const HOPS: usize = 8;

@@ -1,7 +1,7 @@
 -- `record_at` copies the cells one by one.
 use borrow.Author.Needs.{needs}
 use Prim.Native.Nat.{_-_}
-use Rattle.portion.specs.Listing.{recordSize}
+use Rattle.ways.specs.Sizes.{recordSize}
 use Rattle.held.proofs.Copied.{Copied, copied-turn, copied-end}
 use Rattle.held.proofs.record_at.Statement.{statement}
 use Rattle.held.proofs.record_at.Tie as tie

@@ -2,8 +2,9 @@
 use borrow.Author.Needs.{needs}
 use native.Mathlib.Omega.{arith}
 use mathlib.Core.Path.{refl, sym, _∙_}
-use Prim.Native.Nat.{ℕ}
+use Prim.Native.Nat.{ℕ, suc}
 use lib.ListN.{length-replicate}
+use Rattle.join.specs.Shelf.{placesAtMost}
 use Rattle.join.proofs.Face.{graph-shelve, graph-refused, graph-gather, graph-joined}
 use Rattle.join.proofs.join_graph.Statement.{statement}
 use Rattle.join.proofs.join_graph.Tie as tie
@@ -14,7 +15,7 @@ slice-aggregate-shelve-2 c = sym (c .before .before .lone .ensures .long)
 shelve-requires : tie.Need-shelve-requires
 shelve-requires c κs =
     let at-start = c .before .before .before .before .before .before .before .before .before in
-    graph-shelve (at-start .pre) (c .before .before .before .before .before .lone .ensures) refl (length-replicate {A = ℕ} 5121 0)
+    graph-shelve (at-start .pre) (c .before .before .before .before .before .lone .ensures) refl (length-replicate {A = ℕ} (suc placesAtMost) 0)
 
 returns : tie.Need-returns
 returns c =
@@ -32,7 +33,7 @@ shelve-requires-2 c κs =
     let at-start = c .before .before .before .before .before .before .before .before .before .before .before .before .before .before .before .before .before .before .before .before in
     let at-lone = c .before .before .before .before .before .before .before .before .before .before .before .before .before .before .before .before .lone in
     let at-shelve = c .before .before .before .before .before .before .before .before .before .before .shelve in
-    graph-shelve (at-start .pre) (at-lone .ensures) (at-shelve .ensures .same) (at-shelve .kept .1 .1 .1 .1 .1 .0 ∙ length-replicate {A = ℕ} 5121 0)
+    graph-shelve (at-start .pre) (at-lone .ensures) (at-shelve .ensures .same) (at-shelve .kept .1 .1 .1 .1 .1 .0 ∙ length-replicate {A = ℕ} (suc placesAtMost) 0)
 
 gather-requires : tie.Need-gather-requires
 gather-requires c κs =
@@ -41,7 +42,7 @@ gather-requires c κs =
     let at-shelve = c .before .before .before .before .before .before .before .before .before .before .before .before .before .before .before .before .before .before .shelve in
     let at-if1 = c .before .before .before .before .before .before .before .before .before .before .before .before .before .if1 in
     let at-shelve2 = c .before .before .before .before .before .before .before .shelve2 in
-    graph-gather (at-start .pre) (at-lone .ensures) (at-shelve .ensures) (at-if1 .left) (at-shelve2 .ensures) (at-shelve2 .kept .1 .1 .1 .1 .1 .0 ∙ at-shelve .kept .1 .1 .1 .1 .1 .0 ∙ length-replicate {A = ℕ} 5121 0)
+    graph-gather (at-start .pre) (at-lone .ensures) (at-shelve .ensures) (at-if1 .left) (at-shelve2 .ensures) (at-shelve2 .kept .1 .1 .1 .1 .1 .0 ∙ at-shelve .kept .1 .1 .1 .1 .1 .0 ∙ length-replicate {A = ℕ} (suc placesAtMost) 0)
 
 returns-2 : tie.Need-returns-2
 returns-2 c =
@@ -50,7 +51,7 @@ returns-2 c =
     let at-shelve = c .before .before .before .before .before .before .before .before .before .before .before .before .before .before .before .before .before .before .before .before .before .before .shelve in
     let at-if1 = c .before .before .before .before .before .before .before .before .before .before .before .before .before .before .before .before .before .if1 in
     let at-shelve2 = c .before .before .before .before .before .before .before .before .before .before .before .shelve2 in
-    graph-joined (at-start .pre) (at-lone .ensures) (at-shelve .ensures) (at-if1 .left) (at-shelve2 .ensures) (at-shelve2 .kept .1 .1 .1 .1 .1 .0 ∙ at-shelve .kept .1 .1 .1 .1 .1 .0 ∙ length-replicate {A = ℕ} 5121 0) (c .before .before .before .gather .ensures)
+    graph-joined (at-start .pre) (at-lone .ensures) (at-shelve .ensures) (at-if1 .left) (at-shelve2 .ensures) (at-shelve2 .kept .1 .1 .1 .1 .1 .0 ∙ at-shelve .kept .1 .1 .1 .1 .1 .0 ∙ length-replicate {A = ℕ} (suc placesAtMost) 0) (c .before .before .before .gather .ensures)
 
 pub join-graph-spec : {M : Type 1} → statement M
 join-graph-spec =

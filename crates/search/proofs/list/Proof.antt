@@ -1,6 +1,7 @@
 -- The face: what it hands down is as the cycle asks, and what comes back is the portion.
 use Prim.Native.Nat.{ℕ}
 use lib.ListN.{length-replicate}
+use Rattle.search.specs.Barriers.{trailRoom}
 use Rattle.search.proofs.Answer.{list-ready, list-answered}
 use borrow.Author.Needs.{needs}
 use Rattle.search.proofs.list.Statement.{statement}
@@ -9,7 +10,7 @@ use Rattle.search.proofs.list.Tie as tie
 go-through-requires : tie.Need-go-through-requires
 go-through-requires c κs =
     let at-start = c .before .before .before .before .before .before .before .before in
-    list-ready (at-start .pre) _ _ (length-replicate {A = ℕ} 8192 0)
+    list-ready (at-start .pre) _ _ (length-replicate {A = ℕ} trailRoom 0)
 
 returns : tie.Need-returns
 returns c =

@@ -3,6 +3,7 @@ use borrow.Author.Needs.{needs}
 use native.Mathlib.Omega.{arith}
 use mathlib.Core.Path.{sym, _∙_}
 use Prim.Native.Nat.{_-_}
+use Rattle.ways.specs.Sizes.{recordSize}
 use Rattle.chains.proofs.Kept.{Keeping, keep-starts, keep-turn, keep-ends}
 use Rattle.chains.proofs.onward.keep_last.Statement.{statement}
 use Rattle.chains.proofs.onward.keep_last.Tie as tie
@@ -11,7 +12,7 @@ abbrev Inv-loop : tie.InvT-loop
 Inv-loop cells count bookmark₀ first i₀ bookmark i = Keeping cells first bookmark i
 
 abbrev μ-loop : tie.MeasureT-loop
-μ-loop cells count bookmark₀ first i₀ bookmark i = 10 - i
+μ-loop cells count bookmark₀ first i₀ bookmark i = recordSize - i
 
 sub-first : tie.Need-sub-first Inv-loop μ-loop
 sub-first c = omega (arith, c .pre .0)

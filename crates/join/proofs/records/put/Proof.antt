@@ -1,16 +1,16 @@
 -- `put` copies the cells one by one: after i turns the first i are pasted.
 use borrow.Author.Needs.{needs}
 use Prim.Native.Nat.{_-_}
-use Rattle.join.specs.Pages.{size}
+use Rattle.ways.specs.Sizes.{recordSize}
 use Rattle.join.proofs.Writing.{Copying, copy-none, copy-length, copy-fits, copy-turn, copy-end}
 use Rattle.join.proofs.records.put.Statement.{statement}
 use Rattle.join.proofs.records.put.Tie as tie
 
 abbrev Inv-loop : tie.InvT-loop
-Inv-loop out₀ at chain i₀ out i = Copying out₀ at chain size out i
+Inv-loop out₀ at chain i₀ out i = Copying out₀ at chain recordSize out i
 
 abbrev μ-loop : tie.MeasureT-loop
-μ-loop out₀ at chain i₀ out i = size - i
+μ-loop out₀ at chain i₀ out i = recordSize - i
 
 loop-holds : tie.Need-loop-holds Inv-loop μ-loop
 loop-holds c = copy-none

@@ -5,6 +5,7 @@ use native.Mathlib.Omega.{arith}
 use lib.ListN.{getD}
 use borrow.Author.Tests.{eq-eqb, ne-eqb, not-true, not-false}
 use Rattle.linkfile.proofs.Counted.{within-facts}
+use Rattle.ways.specs.Sizes.{recordSize}
 use Rattle.portion.specs.Bookmark.{isBookmark}
 use borrow.Author.Needs.{needs}
 use Rattle.portion.proofs.bookmark.is_chain.Statement.{statement}
@@ -12,17 +13,17 @@ use Rattle.portion.proofs.bookmark.is_chain.Tie as tie
 
 returns : tie.Need-returns
 unfolding isBookmark
-returns c = rw (ne-eqb _ 10 (c .if1 .taken))
+returns c = rw (ne-eqb _ recordSize (c .if1 .taken))
 
 returns-2 : tie.Need-returns-2
 unfolding isBookmark
-returns-2 c = rw (eq-eqb _ 10 (c .before .before .before .if1 .left), ← c .before .within .ensures, not-true (c .before .within .result) (c .if2 .taken))
+returns-2 c = rw (eq-eqb _ recordSize (c .before .before .before .if1 .left), ← c .before .within .ensures, not-true (c .before .within .result) (c .if2 .taken))
 
 returns-3 : tie.Need-returns-3
 unfolding isBookmark
 returns-3 c =
     let at-within = c .before .before .before .within in
-    rw (eq-eqb _ 10 (c .before .before .before .before .before .if1 .left), ← at-within .ensures, not-false (at-within .result) (c .before .before .if2 .left), ne-eqb _ _ (c .if3 .taken))
+    rw (eq-eqb _ recordSize (c .before .before .before .before .before .if1 .left), ← at-within .ensures, not-false (at-within .result) (c .before .before .if2 .left), ne-eqb _ _ (c .if3 .taken))
 
 cast-last : tie.Need-cast-last
 cast-last c =
@@ -49,7 +50,7 @@ returns-4 c =
     let at-if1 = c .before .before .before .before .before .before .before .before .if1 in
     let at-within = c .before .before .before .before .before .before .within in
     let two : getD (at-start .args .cells .now) 0 0 + 2 ≡ getD (at-start .args .cells .now) 0 0 + 1 + 1 = omega arith in
-    rw (eq-eqb _ 10 (at-if1 .left), ← at-within .ensures, not-false (at-within .result) (c .before .before .before .before .before .if2 .left), eq-eqb _ _ (c .before .before .before .if3 .left), two, ← c .before .run .ensures, not-true (c .before .run .result) (c .if4 .taken))
+    rw (eq-eqb _ recordSize (at-if1 .left), ← at-within .ensures, not-false (at-within .result) (c .before .before .before .before .before .if2 .left), eq-eqb _ _ (c .before .before .before .if3 .left), two, ← c .before .run .ensures, not-true (c .before .run .result) (c .if4 .taken))
 
 add-blank : tie.Need-add-blank
 add-blank c =
@@ -71,7 +72,7 @@ returns-5 c =
     let at-within = c .before .before .before .before .before .before .before .within in
     let at-run = c .before .before .run in
     let two : getD (at-start .args .cells .now) 0 0 + 2 ≡ getD (at-start .args .cells .now) 0 0 + 1 + 1 = omega arith in
-    rw (eq-eqb _ 10 (at-if1 .left), ← at-within .ensures, not-false (at-within .result) (c .before .before .before .before .before .before .if2 .left), eq-eqb _ _ (c .before .before .before .before .if3 .left), two, ← at-run .ensures, not-false (at-run .result) (c .before .if4 .left)) (c .blank .ensures)
+    rw (eq-eqb _ recordSize (at-if1 .left), ← at-within .ensures, not-false (at-within .result) (c .before .before .before .before .before .before .if2 .left), eq-eqb _ _ (c .before .before .before .before .if3 .left), two, ← at-run .ensures, not-false (at-run .result) (c .before .if4 .left)) (c .blank .ensures)
 
 pub is-chain-spec : {M : Type 1} → statement M
 is-chain-spec =

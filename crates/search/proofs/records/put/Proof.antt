@@ -1,7 +1,7 @@
 -- `put` copies the cells one by one: after i turns the first i are pasted.
 use borrow.Author.Needs.{needs}
 use Prim.Native.Nat.{_-_}
-use Rattle.search.specs.Face.{size}
+use Rattle.ways.specs.Sizes.{recordSize}
 use Rattle.search.proofs.Writing.{Putting, put-none, put-length, put-fits, put-turn, put-end}
 use Rattle.search.proofs.records.put.Statement.{statement}
 use Rattle.search.proofs.records.put.Tie as tie
@@ -10,7 +10,7 @@ abbrev Inv-loop : tie.InvT-loop
 Inv-loop out₀ at chain i₀ out i = Putting out₀ at chain out i
 
 abbrev μ-loop : tie.MeasureT-loop
-μ-loop out₀ at chain i₀ out i = size - i
+μ-loop out₀ at chain i₀ out i = recordSize - i
 
 loop-holds : tie.Need-loop-holds Inv-loop μ-loop
 loop-holds c = put-none
