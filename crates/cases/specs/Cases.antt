@@ -12,7 +12,7 @@ use Rattle.question.specs.declared.Question.{Question}
 use Rattle.question.specs.Asked.{askedFault}
 use Rattle.portion.specs.Listing.{listingFor, Start, fresh, bookmarked, startsAfter, startFault}
 use Rattle.join.specs.Lists.{halvesFor, halvesFault}
-use Rattle.cases.specs.SixPersons.{six, ask, Q}
+use Rattle.cases.specs.SixPersons.{ask, Q}
 
 -- a portion of the listing, in so much room
 abbrev pub portionIn : List ℕ → Question → ℕ → Start → List (List ℕ)

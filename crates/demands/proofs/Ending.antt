@@ -6,14 +6,13 @@ use mathlib.Core.List.{List, []}
 use Prim.Native.Nat.{ℕ, _≤_, _-_}
 use native.Mathlib.Omega.{arith}
 use lib.ListN.{length, take, drop}
-use lib.Dec.{ltb}
 use denote.Ref.{RefT, now}
 use borrow.Author.Tests.{le-ltb}
 use Rattle.linkfile.specs.Format.{personCount, linkCount, feedCount}
 use Rattle.linkfile.specs.Verdict as verdict
 use Rattle.linkfile.specs.Verdict.{Fault, sound, fault, firstOf, Numbered}
 use Rattle.linkfile.specs.Checked.{fileFault, checked}
-use Rattle.linkfile.specs.Rows.{viewStart, viewEnd, rowView}
+use Rattle.linkfile.specs.Rows.{viewStart, viewEnd}
 use Rattle.linkfile.specs.Answers.{verdictSaid, Checks, Views}
 use Rattle.linkfile.specs.declared.Verdict.{Verdict}
 use Rattle.linkfile.proofs.Numbered.{file-numbered}

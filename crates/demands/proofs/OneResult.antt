@@ -7,7 +7,7 @@ use denote.Ref.{RefT, now, ptr}
 use Rattle.linkfile.specs.Verdict as verdict
 use Rattle.linkfile.specs.Checked.{checked}
 use Rattle.linkfile.specs.Rows.{viewStart, rowView}
-use Rattle.linkfile.specs.Answers.{verdictSaid, Checks}
+use Rattle.linkfile.specs.Answers.{verdictSaid}
 use Rattle.linkfile.specs.declared.Verdict as verdict-code
 use Rattle.linkfile.proofs.OneResult.{check-one, row-one}
 use Rattle.question.specs.declared.Question.{Question}

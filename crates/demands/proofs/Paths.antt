@@ -1,31 +1,27 @@
 -- Demand 2: the simple paths of the customer's words are the chains over the graph of the admitted links, and these are what is listed.
-use mathlib.Core.Path.{_≡_, refl, sym, ap, _∙_}
+use mathlib.Core.Path.{_≡_, refl, _∙_}
 use mathlib.Core.Logic.{_≢_, _↔_}
 use mathlib.Core.List.{List, [], _∷_}
-use Prim.Native.Nat.{ℕ, _≤_, _<_}
+use Prim.Native.Nat.{ℕ, _≤_}
 use native.Mathlib.Omega.{arith}
 use lib.ListN.{length}
 use borrow.Author.Tests.{le-leb}
 use Rattle.linkfile.specs.Verdict.{sound}
-use Rattle.linkfile.proofs.Passed.{sound-rules}
 use Rattle.ways.specs.Graph.{_∈_}
 use Rattle.ways.specs.Chain.{Linked, Chain}
-use Rattle.ways.specs.Order.{Rising}
 use Rattle.ways.proofs.Listed.{exact}
-use Rattle.ways.proofs.Ordered.{ordered, once-each, determined}
-use Rattle.ways.proofs.Portions.{real-chains}
-use Rattle.ways.proofs.After.{after-all}
+use Rattle.ways.proofs.Ordered.{once-each, determined}
 use Rattle.ways.proofs.ByHops.{byHops-iff, byHops-ordered, byHops-once}
 use Rattle.ways.specs.Sizes.{recordSize}
 use Rattle.question.specs.declared.Question.{Question}
 use Rattle.question.specs.Asked.{askedFault}
 use Rattle.question.specs.Admission.{next}
-use Rattle.question.proofs.Leads.{next-led, led-next, next-rising}
+use Rattle.question.proofs.Leads.{next-led, led-next}
 use Rattle.portion.specs.Listing.{listingFor, fresh}
 use Rattle.portion.specs.Answers.{Portioned}
 use Rattle.portion.specs.declared.Answer.{Answer}
-use Rattle.portion.proofs.Starting.{asked-file, asked-proper}
-use Rattle.portion.proofs.LaidEnd.{passes}
+use Rattle.portion.proofs.Starting.{asked-proper}
+use Rattle.portion.proofs.Known.{rows, rises, fresh-all, passes}
 use Rattle.join.specs.Lists.{halvesFor, chainsFor, halvesFault, joinFault}
 use Rattle.join.specs.Answers.{Joins}
 use Rattle.demands.specs.Paths.{Reached, SimplePath}
@@ -67,9 +63,6 @@ module _ (file : List ℕ) (q : Question) where
       }
 
   module _ (asked : askedFault file q ≡ sound) where
-    rows : (p : ℕ) → Rising _<_ (next file q p)
-    rows = next-rising (sound-rules file (asked-file file q asked)) q
-
     differ : q .from ≢ q .to
     differ = asked-proper file q asked .differ
 
@@ -79,8 +72,7 @@ module _ (file : List ℕ) (q : Question) where
     portion-lists : {out out′ : List ℕ} {answer : Answer} → recordSize ≤ length out → Portioned file q fresh out out′ answer → Lists (listingFor file q) out out′ answer
     portion-lists {out} h p =
         let passing = passes file q asked fresh out refl h in
-        let all = after-all [] (listingFor file q) (real-chains (next file q) rows (q .from) (q .to) (q .hops)) in
-        record { says = p .answers ∙ rw (passing, all); cells = p .cells ∙ rw (passing, all) }
+        record { says = p .answers ∙ rw (passing, fresh-all file q asked); cells = p .cells ∙ rw (passing, fresh-all file q asked) }
 
     join-lists : {working working′ out out′ : List ℕ} {answer : Answer} → recordSize ≤ length out → halvesFault recordSize (length working) (halvesFor file q) ≡ sound
         → Joins file q working working′ out out′ answer → Lists (chainsFor file q) out out′ answer
@@ -93,12 +85,12 @@ module _ (file : List ℕ) (q : Question) where
         record {
           every = λ c s. is-chain c .1 (path-chain c s);
           nothingElse = λ c m. chain-path c (is-chain c .0 m);
-          once = once-each (next file q) rows (q .from) (q .to) (q .hops);
-          inOrder = ordered (next file q) rows (q .from) (q .to) (q .hops);
-          noOther = λ L r same. determined (next file q) rows (q .from) (q .to) (q .hops) differ L r (λ c. (λ m. path-chain c (same c .0 m), λ h. same c .1 (chain-path c h)));
+          once = once-each (next file q) (rows file q asked) (q .from) (q .to) (q .hops);
+          inOrder = rises file q asked;
+          noOther = λ L r same. determined (next file q) (rows file q asked) (q .from) (q .to) (q .hops) differ L r (λ c. (λ m. path-chain c (same c .0 m), λ h. same c .1 (chain-path c h)));
           portion = portion-lists;
           joinsTheSame = byHops-iff (next file q) (q .from) (q .to) (q .hops);
-          joinsOnce = byHops-once (next file q) (q .from) (q .to) rows (q .hops);
-          shortestFirst = byHops-ordered (next file q) (q .from) (q .to) rows (q .hops);
+          joinsOnce = byHops-once (next file q) (q .from) (q .to) (rows file q asked) (q .hops);
+          shortestFirst = byHops-ordered (next file q) (q .from) (q .to) (rows file q asked) (q .hops);
           join = join-lists;
         }

@@ -19,7 +19,7 @@ use Rattle.ways.specs.ByHops.{Sooner}
 use Rattle.ways.specs.Records.{cellsOf, written}
 use Rattle.ways.specs.Sizes.{recordSize}
 use Rattle.question.specs.declared.Question.{Question}
-use Rattle.question.specs.Asked.{personFault, askedFault}
+use Rattle.question.specs.Asked.{personFault}
 use Rattle.distance.specs.Answers as distance
 use Rattle.distance.specs.declared.Answer as hops
 use Rattle.portion.specs.Listing.{listingFor, Start, fresh, bookmarked, startFault, portionFault}

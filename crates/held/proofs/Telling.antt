@@ -11,17 +11,14 @@ use Rattle.ways.specs.Graph.{_∈_}
 use Rattle.ways.specs.Portions.{after, lastOr}
 use Rattle.ways.specs.Records.{recordOf, Fits, roomOf, written}
 use Rattle.ways.specs.Sizes.{recordSize}
-use Rattle.ways.proofs.Members.{take-in}
-use Rattle.ways.proofs.After.{after-from}
-use Rattle.ways.proofs.Records.{listing-fits, length-written, room-within}
+use Rattle.ways.proofs.Records.{length-written, room-within}
 use Rattle.question.specs.declared.Question.{Question}
-use Rattle.question.specs.Admission.{next}
 use Rattle.question.specs.Asked.{askedFault}
 use Rattle.portion.specs.Listing.{Start, startsAfter, startFault, listingFor, portionFault, portionFor, endedFor}
 use Rattle.portion.specs.Answers.{listed, refused, answerSaid, answerFor, Portioned}
 use Rattle.portion.specs.declared.Answer as code
 use Rattle.portion.specs.EndToEnd.{lastRecord}
-use Rattle.portion.proofs.Starting.{asked-proper}
+use Rattle.portion.proofs.Known.{portion-in, fits}
 use Rattle.portion.proofs.Records.{last-record}
 use Rattle.held.specs.declared.Held.{Held}
 use Rattle.held.specs.Holding.{startOf, heldAfter, MovedOn}
@@ -47,12 +44,9 @@ module _ {file : List ℕ} {q : Question} {start : Start} {out out′ : List ℕ
         go sound e = refl
         go (fault number place) e = let z : _≡_ {A = ℕ} 0 1 = cc in absurd (omega arith)
 
-    -- the chains are chains of the listing, and have records
-    pub listed-in : {c : List ℕ} → c ∈ portionFor file q start out → c ∈ listingFor file q
-    listed-in m = after-from (startsAfter start) (listingFor file q) (take-in (roomOf recordSize (length out)) (after (startsAfter start) (listingFor file q)) m) .0
-
-    pub listed-fits : (c : List ℕ) → c ∈ portionFor file q start out → Fits recordSize c
-    listed-fits c m = listing-fits (next file q) (q .from) (q .to) (q .hops) recordSize (omega (arith, asked-proper file q (sound-asked file q start out listed-sound .0) .most)) c (listed-in m)
+    -- the chains have records
+    listed-fits : (c : List ℕ) → c ∈ portionFor file q start out → Fits recordSize c
+    listed-fits c m = fits file q (sound-asked file q start out listed-sound .0) c (portion-in file q start out m)
 
     -- there is room for the chains
     room : length (portionFor file q start out) * recordSize ≤ length out

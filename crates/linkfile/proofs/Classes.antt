@@ -5,7 +5,7 @@ use Prim.Native.Nat.{ℕ, zero, suc, _<_, _≤_}
 use native.Mathlib.Omega.{arith}
 use borrow.Author.Tests.{ne-eqb}
 use Rattle.linkfile.specs.Numbers.{within}
-use Rattle.linkfile.specs.Kinds.{Class, class, unknown, classOf}
+use Rattle.linkfile.specs.Kinds.{class, unknown, classOf}
 
 pub class-low : (kind : ℕ) → 1 ≤ kind → kind < 3 → classOf kind ≡ class 1
 unfolding classOf

@@ -1,20 +1,17 @@
 -- What is known of each link of a file that passed.
-use mathlib.Core.Path.{_≡_, refl, sym, ap, _∙_}
-use mathlib.Core.Bool.{Bool, true, false, not, _&&_, cond}
+use mathlib.Core.Path.{_≡_, refl}
+use mathlib.Core.Bool.{Bool, true, false, not, _&&_}
 use mathlib.Core.List.{List}
 use Prim.Native.Nat.{ℕ, _+_, _-_, _<_, _≤_}
 use native.Mathlib.Omega.{arith}
 use lib.Dec.{eqb, leb, ltb}
-use borrow.Author.Tests.{ltb-true, eqb-true, eqb-false, leb-true, ne-eqb, not-true}
+use borrow.Author.Tests.{ltb-true, eqb-false, leb-true, ne-eqb, not-true}
 use Rattle.linkfile.specs.Format.{personCount, feedCount, row, target, day, feedIndex, kind, linkZero}
 use Rattle.linkfile.specs.Kinds.{classOf, known}
-use Rattle.linkfile.specs.Verdict.{Fault, sound, fault, unless, firstAmong}
+use Rattle.linkfile.specs.Verdict.{Fault, sound, unless}
 use Rattle.linkfile.specs.Checked.{lastDay, targetRises, linkRuled, linkFault, ownedFault}
-use Rattle.linkfile.specs.Inside.{Laid, Rowed}
-use Rattle.linkfile.specs.declared.Counts.{Counts}
 use Rattle.linkfile.proofs.Faults.{first-none}
 use Rattle.linkfile.proofs.Counted.{halves}
-use Rattle.linkfile.proofs.Tabled.{ruled}
 use Rattle.linkfile.proofs.Passed.{Passed, tables-sound}
 
 -- the rules of refusals 7, 8 and 9, as facts

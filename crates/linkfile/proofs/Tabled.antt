@@ -1,14 +1,14 @@
 -- What the row table says once it has passed: the rows keep on, and none reaches past the links.
-use mathlib.Core.Path.{_≡_, refl, sym, ap, _∙_}
+use mathlib.Core.Path.{_≡_, refl, sym, _∙_}
 use mathlib.Core.Bool.{Bool, true, false, _&&_}
 use mathlib.Core.List.{List}
 use Prim.Native.Nat.{ℕ, zero, suc, _+_, _-_, _<_, _≤_}
 use native.Mathlib.Omega.{arith}
 use borrow.Author.Tests.{leb-true, eqb-true, ne-eqb, eq-eqb}
 use Rattle.linkfile.specs.Format.{personCount, linkCount, row}
-use Rattle.linkfile.specs.Verdict.{Fault, sound, fault, unless, firstAmong}
+use Rattle.linkfile.specs.Verdict.{sound, unless}
 use Rattle.linkfile.specs.Checked.{rowStartsOrKeeps, rowEnds, rowRuled, rowFault, linkFault, ownedFault}
-use Rattle.linkfile.specs.Inside.{Laid, Rowed, Owned}
+use Rattle.linkfile.specs.Inside.{Rowed}
 use Rattle.linkfile.specs.declared.Counts.{Counts}
 use Rattle.linkfile.proofs.Faults.{Looking, look-starts, first-none}
 use Rattle.linkfile.proofs.Counted.{halves}

@@ -1,7 +1,7 @@
 -- Kinds and their class, decided by ranges of the kind number. Definitions only.
-use mathlib.Core.Bool.{Bool, true, false, _&&_, _||_, cond}
+use mathlib.Core.Bool.{Bool, true, false, _||_, cond}
 use Prim.Native.Nat.{ℕ}
-use lib.Dec.{eqb, leb}
+use lib.Dec.{eqb}
 use Rattle.linkfile.specs.Numbers.{within}
 use Rattle.linkfile.specs.declared.Class as code
 

@@ -6,7 +6,7 @@ ghost use mathlib.Core.Path.{_≡_};
 ghost use Prim.Native.Nat.{_+_, _≤_};
 ghost use Rattle.linkfile.specs.Format.{personCount, row};
 ghost use Rattle.linkfile.specs.Verdict.{faultSaid, firstAmong};
-ghost use Rattle.linkfile.specs.Checked.{rowStartsOrKeeps, rowEnds, rowRuled, rowFault};
+ghost use Rattle.linkfile.specs.Checked.{rowStartsOrKeeps, rowEnds, rowFault};
 ghost use Rattle.linkfile.specs.Inside.{Laid};
 
 // An entry of the row table.

@@ -14,7 +14,7 @@ use Rattle.portion.proofs.OneResult.{portion-one}
 use Rattle.held.proofs.OneResult.{held-one}
 use Rattle.join.proofs.OneResult.{join-one}
 use Rattle.outside.specs.Encoded.{listedNumber, CheckNumber, RowNumber, FewestNumber, PortionNumber, JoinNumber}
-use Rattle.outside.specs.HeldCells.{heldCells, MovedCells, HeldNumber}
+use Rattle.outside.specs.HeldCells.{heldCells, HeldNumber}
 
 pub kin-check-one : (file : List ℕ) {a b : ℕ} → CheckNumber file a → CheckNumber file b → a ≡ b
 kin-check-one file one other = one ∙ sym other

@@ -1,17 +1,17 @@
 -- The test of a bookmark says just whether it is the record of a chain of the listing.
-use mathlib.Core.Path.{_≡_, refl, sym, ap, subst, _∙_}
+use mathlib.Core.Path.{_≡_, refl, sym, ap, _∙_}
 use mathlib.Core.Logic.{_≢_, _↔_}
-use mathlib.Core.Bool.{Bool, true, false, not, _&&_, true≢false, false≢true}
-use mathlib.Core.List.{List, [], _∷_, List·Memᴰ, List·Memᴰ·not-nil}
-use Prim.Native.Nat.{ℕ, zero, suc, _+_, _-_, _<_, _≤_}
+use mathlib.Core.Bool.{Bool, true, false, not, _&&_, false≢true}
+use mathlib.Core.List.{List, [], _∷_, List·Memᴰ·not-nil}
+use Prim.Native.Nat.{ℕ, zero, suc, _+_, _-_, _≤_}
 use native.Mathlib.Omega.{arith}
-use lib.ListN.{length, getD, take, drop, replicate, length-drop, length-replicate}
+use lib.ListN.{length, getD, drop, replicate, length-drop}
 use lib.Seq.{slice, length-take-le}
-use lib.Dec.{eqb, leb}
-use borrow.Author.Tests.{eqb-true, eq-eqb, leb-true, le-leb, not-true}
+use lib.Dec.{eqb}
+use borrow.Author.Tests.{eqb-true, eq-eqb, le-leb, not-true}
 use Rattle.linkfile.specs.Numbers.{within}
 use Rattle.linkfile.proofs.Counted.{halves, within-facts}
-use Rattle.ways.specs.Graph.{Graph, _∈_, among}
+use Rattle.ways.specs.Graph.{Graph, among}
 use Rattle.ways.specs.Chain.{First, Last, Linked, Distinct, hops, Chain}
 use Rattle.ways.specs.Listing.{listing}
 use Rattle.ways.specs.Records.{Shaped, chainOf, isRecordIn}

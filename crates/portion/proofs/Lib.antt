@@ -4,5 +4,6 @@ pub mod Cells
 pub mod Starting
 pub mod Numbered
 pub mod Records
+pub mod Known
 pub mod LaidEnd
 pub mod OneResult

@@ -1,12 +1,11 @@
 -- Where a portion may start, and what is refused: from the tests to the promise.
-use mathlib.Core.Path.{_≡_, refl, sym, ap, subst, fun-ext, _∙_}
-use mathlib.Core.Logic.{_≢_}
+use mathlib.Core.Path.{_≡_, refl, sym, fun-ext, _∙_}
 use mathlib.Core.Bool.{Bool, true, false, cond}
-use mathlib.Core.List.{List, [], _∷_}
+use mathlib.Core.List.{List, []}
 use Prim.Native.Nat.{ℕ, _+_, _<_, _≤_}
 use native.Mathlib.Omega.{arith}
 use lib.ListN.{length}
-use lib.Dec.{eqb, leb}
+use lib.Dec.{eqb}
 use borrow.Author.Tests.{le-leb, lt-leb, ne-eqb}
 use Rattle.linkfile.specs.Format.{personCount}
 use Rattle.linkfile.specs.Verdict.{Fault, sound, fault, unless, firstOf}
@@ -14,10 +13,10 @@ use Rattle.linkfile.specs.Checked.{fileFault}
 use Rattle.linkfile.proofs.Passed.{sound-rules, passed-fits}
 use Rattle.ways.specs.Graph.{Graph}
 use Rattle.ways.specs.Listing.{listing}
-use Rattle.ways.specs.Portions.{portion, endedAfter}
-use Rattle.ways.specs.Records.{chainOf, isRecordIn, written, roomOf}
+use Rattle.ways.specs.Portions.{endedAfter}
+use Rattle.ways.specs.Records.{chainOf, isRecordIn, roomOf}
 use Rattle.ways.specs.Sizes.{recordSize}
-use Rattle.compact.specs.Compact.{graphOf, Compact, persons}
+use Rattle.compact.specs.Compact.{graphOf, persons}
 use Rattle.question.specs.declared.Question.{Question}
 use Rattle.question.specs.Asked.{askedFault, questionFault}
 use Rattle.question.specs.Admission.{next}
@@ -25,10 +24,10 @@ use Rattle.question.specs.Filled.{Filled}
 use Rattle.question.proofs.Refused.{Proper, question-proper}
 use Rattle.search.specs.Face as search
 use Rattle.search.specs.declared.Listed as search-found
-use Rattle.portion.specs.Listing.{listingFor, Start, fresh, bookmarked, startSaid, startsAfter, startFault, portionFault, portionFor, endedFor}
-use Rattle.portion.specs.Bookmark.{isBookmark, startFits}
+use Rattle.portion.specs.Listing.{Start, fresh, bookmarked, startSaid, startsAfter, startFault, portionFault}
+use Rattle.portion.specs.Bookmark.{startFits}
 use Rattle.portion.specs.Inside.{Passes}
-use Rattle.portion.specs.Answers.{Answer, listed, refused, answerSaid, answerFor, cellsFor, Portioned}
+use Rattle.portion.specs.Answers.{Portioned}
 use Rattle.portion.specs.declared.Answer as code
 use Rattle.portion.proofs.Bookmarks.{bookmark-is}
 

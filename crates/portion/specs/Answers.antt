@@ -9,7 +9,7 @@ use Rattle.ways.specs.Records.{written}
 use Rattle.ways.specs.Sizes.{recordSize}
 use Rattle.question.specs.declared.Question.{Question}
 use Rattle.portion.specs.declared.Answer as code
-use Rattle.portion.specs.Listing.{Start, startSaid, portionFault, portionFor, endedFor}
+use Rattle.portion.specs.Listing.{Start, portionFault, portionFor, endedFor}
 
 -- "The answer is one of two cases, listed or refused": how many and whether the listing has ended, or number and place
 pub data Answer : Type 0 where

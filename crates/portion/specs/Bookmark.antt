@@ -2,7 +2,7 @@
 -- That the test says just whether the cells are the record of a chain of the listing is the law `bookmark-is`.
 use mathlib.Core.List.{List, [], _∷_}
 use mathlib.Core.Bool.{Bool, true, false, _&&_, not, cond}
-use Prim.Native.Nat.{ℕ, zero, suc, _+_}
+use Prim.Native.Nat.{ℕ, _+_}
 use lib.ListN.{length, getD, drop}
 use lib.Seq.{slice}
 use lib.Dec.{eqb}

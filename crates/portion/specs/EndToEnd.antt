@@ -9,7 +9,7 @@ use Rattle.ways.specs.Records.{chainOf, roomOf, cellsOf}
 use Rattle.ways.specs.Sizes.{recordSize}
 use Rattle.question.specs.declared.Question.{Question}
 use Rattle.portion.specs.declared.Answer as code
-use Rattle.portion.specs.Listing.{listingFor, Start, fresh, bookmarked}
+use Rattle.portion.specs.Listing.{listingFor, Start, bookmarked}
 use Rattle.portion.specs.Answers.{Answer, listed, refused, answerSaid, Portioned}
 
 -- one call: the output as it was lent and at exit, and the answer

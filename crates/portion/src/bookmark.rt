@@ -6,7 +6,7 @@ use question::Question;
 use ways::RECORD;
 ghost use mathlib.Core.Path.{_≡_};
 ghost use Prim.Native.Nat.{_+_, _≤_, _<_};
-ghost use lib.ListN.{length, getD, drop};
+ghost use lib.ListN.{length, drop};
 ghost use lib.Seq.{slice};
 ghost use Rattle.ways.specs.Graph.{among};
 ghost use Rattle.ways.specs.Sizes.{recordSize, mostHops};

@@ -1,6 +1,5 @@
 -- `row` meets its contract: the view starts and ends where the row table says.
-use mathlib.Core.Path.{_≡_, sym, ap, _∙_}
-use Prim.Native.Nat.{_+_}
+use mathlib.Core.Path.{sym, ap, _∙_}
 use native.Mathlib.Omega.{arith}
 use borrow.Author.Tests.{lt-ltb, le-ltb}
 use Rattle.linkfile.specs.Answers.{verdictSaid}

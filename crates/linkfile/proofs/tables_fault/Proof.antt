@@ -1,5 +1,5 @@
 -- `tables_fault` meets its contract: the first of the three tables that has a fault decides.
-use mathlib.Core.Path.{_≡_, sym, ap, _∙_}
+use mathlib.Core.Path.{sym, ap, _∙_}
 use Rattle.linkfile.specs.Verdict.{faultSaid}
 use Rattle.linkfile.specs.Checked.{tablesFault}
 use borrow.Author.Needs.{needs}

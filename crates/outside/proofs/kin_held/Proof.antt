@@ -1,5 +1,5 @@
 -- `kin_held` meets its contract: the cells are read, moved on by the held listing's own step, and put back.
-use mathlib.Core.Path.{_≡_, refl, ap, sym, _∙_}
+use mathlib.Core.Path.{refl}
 use native.Mathlib.Omega.{arith}
 use Rattle.outside.proofs.Numbered.{portion-small}
 use borrow.Author.Needs.{needs}

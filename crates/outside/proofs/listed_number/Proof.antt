@@ -1,5 +1,5 @@
 -- `listed_number` meets its contract: the count and the refusal numbers are small enough for their places in 64 bits.
-use mathlib.Core.Path.{_≡_, sym, ap, subst}
+use mathlib.Core.Path.{sym, ap, subst}
 use native.Mathlib.Omega.{arith}
 use Rattle.portion.specs.Answers.{answerSaid}
 use Rattle.outside.specs.Encoded.{Small, listedNumber}

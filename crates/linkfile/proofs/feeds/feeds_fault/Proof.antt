@@ -1,7 +1,7 @@
 -- `feeds_fault` meets its contract. The loop's invariant says what is still to be looked at; the measure is how much of it.
 use borrow.Author.Needs.{needs}
-use mathlib.Core.Path.{_≡_, sym, ap, _∙_}
-use Prim.Native.Nat.{_+_, _-_}
+use mathlib.Core.Path.{sym, ap, _∙_}
+use Prim.Native.Nat.{_-_}
 use native.Mathlib.Omega.{arith}
 use Rattle.linkfile.specs.Format.{feedCount}
 use Rattle.linkfile.specs.Verdict.{faultSaid, firstAmong}

@@ -1,5 +1,4 @@
 -- `marked` meets its contract: each way out says what the tests that led there say.
-use mathlib.Core.Path.{_≡_}
 use borrow.Author.Tests.{le-leb, lt-leb, eq-eqb, ne-eqb}
 use Rattle.linkfile.specs.Format.{marked}
 use borrow.Author.Needs.{needs}

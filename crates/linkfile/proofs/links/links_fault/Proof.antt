@@ -9,7 +9,7 @@ use Rattle.linkfile.specs.Format.{personCount}
 use Rattle.linkfile.specs.Verdict.{faultSaid, firstAmong}
 use Rattle.linkfile.specs.Checked.{linkFault, ownedFault}
 use Rattle.linkfile.proofs.Faults.{Looking, look-starts, look-on, look-stops, look-ends}
-use Rattle.linkfile.proofs.Tabled.{rows-keep, rows-below, links-start}
+use Rattle.linkfile.proofs.Tabled.{rows-below, links-start}
 use Rattle.linkfile.proofs.links.links_fault.Statement.{statement}
 use Rattle.linkfile.proofs.links.links_fault.Tie as tie
 

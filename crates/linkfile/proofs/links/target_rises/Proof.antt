@@ -1,5 +1,4 @@
 -- `target_rises` meets its contract, for the first link of a row and for any other.
-use native.Mathlib.Omega.{arith}
 use borrow.Author.Tests.{eq-eqb, ne-eqb}
 use Prim.Native.Nat.{_-_}
 use Rattle.linkfile.specs.Checked.{targetRises}

@@ -1,5 +1,4 @@
 -- `ends` meets its contract, for the last entry and for any other.
-use mathlib.Core.Path.{_∙_, sym}
 use borrow.Author.Tests.{eq-eqb, ne-eqb}
 use Rattle.linkfile.specs.Checked.{rowEnds}
 use borrow.Author.Needs.{needs}

@@ -1,5 +1,4 @@
 -- `entry` meets its contract: the entry stands where the header's feed count puts it.
-use mathlib.Core.Path.{_∙_}
 use borrow.Author.Needs.{needs}
 use Rattle.linkfile.proofs.rows.entry.Statement.{statement}
 use Rattle.linkfile.proofs.rows.entry.Tie as tie

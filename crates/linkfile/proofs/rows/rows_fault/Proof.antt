@@ -1,6 +1,6 @@
 -- `rows_fault` meets its contract. The loop's invariant says what is still to be looked at; the measure is how much of it.
 use borrow.Author.Needs.{needs}
-use mathlib.Core.Path.{_≡_, sym, ap, _∙_}
+use mathlib.Core.Path.{sym, ap, _∙_}
 use Prim.Native.Nat.{_+_, _-_}
 use native.Mathlib.Omega.{arith}
 use Rattle.linkfile.specs.Format.{personCount}

@@ -1,9 +1,8 @@
 -- `leads` meets its contract: the person's row is gone through, target by target.
 use borrow.Author.Needs.{needs}
-use mathlib.Core.Path.{_≡_, refl, sym}
-use Prim.Native.Nat.{_+_, _-_, _≤_}
+use mathlib.Core.Path.{refl}
+use Prim.Native.Nat.{_-_}
 use native.Mathlib.Omega.{arith}
-use lib.ListN.{length, getD}
 use Rattle.ways.specs.Graph.{among}
 use Rattle.compact.specs.Compact.{graphOf}
 use Rattle.compact.proofs.Rows.{row-none}

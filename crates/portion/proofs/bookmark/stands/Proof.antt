@@ -1,6 +1,6 @@
 -- `stands` meets its contract: the cells are gone through one by one.
 use borrow.Author.Needs.{needs}
-use mathlib.Core.Path.{_≡_, refl}
+use mathlib.Core.Path.{refl}
 use Prim.Native.Nat.{_-_}
 use lib.Seq.{slice}
 use Rattle.ways.specs.Graph.{among}
