@@ -206,7 +206,7 @@ module _ {file : List ℕ} {q : Question} {start : Start} {bookmark counted cell
               goes = λ x. (
                 record { digits = d; room = omega (arith, way-length, k .room); whole = on .whole; passing = on .passing; sum = rw left (same ∙ k .sum) },
                 rw (← count-same x, way-asked, way-chains, left, same) (ap (λ (t : List ℕ). t ++ endLine (worth counted + length R)) parts ∙ append-assoc (chainLines P) (chainLines (drop room R)) (endLine (worth counted + length R))),
-                rw left (omega (arith, short, k .room)),
+                omega (arith, count-same x, way-last e .0),
               );
             }
 

@@ -3,3 +3,5 @@ pub mod Lined
 pub mod Going
 pub mod Kept
 pub mod Heard
+pub mod Ahead
+pub mod Putting

@@ -28,9 +28,19 @@ questionIn input = record {
   last = number32 input 24;
 }
 
+-- what is heard: a question, or a refusal with its number and place
+pub data Heard : Type 0 where
+  asks : Question → Heard
+  refused : ℕ → ℕ → Heard
+
+-- what the code's enum says, in these words
+abbrev pub inputSaid : code.Input → Heard
+inputSaid (code.the-variants.Asks q) = asks q
+inputSaid (code.the-variants.Refused number place) = refused number place
+
 -- 19: "program: input under 28 bytes", place 0; "19 precedes all"
-abbrev pub heardIn : List ℕ → code.Input
-heardIn input = cond (ltb (length input) questionSize) (code.the-variants.Refused 19 0) (code.the-variants.Asks (questionIn input))
+abbrev pub heardIn : List ℕ → Heard
+heardIn input = cond (ltb (length input) questionSize) (refused 19 0) (asks (questionIn input))
 
 -- "A refusal prints only `refused R at P`." Otherwise a line for each chain, "then `end`, a space and the number of chains":
 -- of these chains, where so many were printed before them
