@@ -1,21 +1,20 @@
 -- Looking ahead: where a portion comes next, what is still to be printed is its lines, or a refusal's, and what follows them.
-use mathlib.Core.Path.{_≡_, refl, sym, ap, subst, _∙_}
+use mathlib.Core.Path.{_≡_, refl, ap, _∙_}
 use mathlib.Core.Bool.{Bool, true, false}
-use mathlib.Core.List.{List, [], _∷_, _++_}
-use Prim.Native.Nat.{ℕ, _-_, _≤_, _<_}
+use mathlib.Core.List.{List}
+use Prim.Native.Nat.{ℕ, _-_, _≤_}
 use native.Mathlib.Omega.{arith}
 use borrow.Author.Tests.{le-ltb, lt-ltb}
 use lib.ListN.{length, take, drop, length-drop}
 use lib.Seq.{take-all}
 use Rattle.question.specs.declared.Question.{Question}
-use Rattle.portion.specs.Listing.{recordSize, fresh, after as behind, startSaid}
-use Rattle.portion.specs.Answers.{listed, refused as turned, answerSaid}
+use Rattle.portion.specs.Listing.{recordSize, startSaid}
+use Rattle.portion.specs.Answers.{listed, answerSaid}
 use Rattle.portion.specs.declared.Answer as answer
 use Rattle.text.specs.Decimal.{worth, Digits}
-use Rattle.text.specs.Lines.{chainLines, chainsAt, endLine, refusalLine}
-use Rattle.chains.specs.Program.{questionSize, questionIn, asks, refused, heardIn, printed}
+use Rattle.chains.specs.Program.{questionSize, questionIn, asks, refused, heardIn}
 use Rattle.chains.specs.Onward.{toCome, OnTheWay, WentOn}
-use Rattle.chains.specs.Pages.{fromStart, behindPortion, leftText, Lined, Ready, LookedAhead, refusalOf, Begins}
+use Rattle.chains.specs.Pages.{leftText, Lined, Ready, LookedAhead, refusalOf, Begins}
 use Rattle.chains.specs.declared.pages.Left as code
 use Rattle.chains.specs.declared.pages.Progress.{Progress}
 use Rattle.chains.proofs.Heard.{asks-what, refused-what}

@@ -6,7 +6,7 @@ use mathlib.Core.List.{List, [], _∷_, _++_, append-assoc, map, List·Memᴰ·h
 use Prim.Native.Nat.{ℕ, zero, suc, _+_, _-_, _*_, _/_, _^_, _≤_, _<_}
 use native.Mathlib.Omega.{arith}
 use native.Mathlib.Nat.{lt-of-le-of-lt}
-use borrow.Author.Tests.{le-leb, leb-true, leb-false, le-ltb, lt-ltb}
+use borrow.Author.Tests.{le-leb, leb-true, leb-false}
 use lib.ListN.{length, take, drop, length-take, length-drop, take-append-drop}
 use lib.Seq.{take-all, length-take-le}
 use Rattle.linkfile.specs.Verdict.{Fault, sound, fault, unless, firstOf}
@@ -34,7 +34,7 @@ use Rattle.portion.proofs.Records.{last-record}
 use Rattle.text.specs.Decimal.{worth, Digits}
 use Rattle.text.specs.Lines.{chainLines, chainsAt, endLine, refusalLine, Records}
 use Rattle.text.proofs.Lining.{lines-append}
-use Rattle.chains.specs.Program.{questionSize, questionIn, textFor, printed}
+use Rattle.chains.specs.Program.{textFor}
 use Rattle.chains.specs.Onward.{rest, toCome, OnTheWay, WentOn}
 use Rattle.chains.proofs.Bounded.{count-fits}
 use Rattle.chains.proofs.Lined.{chains-written, records-written}
@@ -222,10 +222,3 @@ fresh-rest file q = first-all (q .from) (ways (next file q) (q .to) (q .hops) (q
 
 pub way-starts : {file : List ℕ} {q : Question} {bookmark counted cells : List ℕ} → Digits counted → worth counted ≡ 0 → recordSize ≤ length cells → length bookmark ≡ recordSize → OnTheWay file q (startSaid 0 bookmark) bookmark counted cells
 way-starts {file} {q} d w h l = record { digits = d; room = h; whole = l; passing = refl; sum = omega (arith, w, ap length (fresh-rest file q)) }
-
--- the program prints what is to come from a fresh start on, and a refusal of its own before that
-pub printed-all : (input : List ℕ) → questionSize ≤ length input → printed input ≡ toCome (drop questionSize input) (questionIn input) fresh 0
-printed-all input h = rw (le-ltb (length input) questionSize h, fresh-rest (drop questionSize input) (questionIn input))
-
-pub printed-short : (input : List ℕ) → length input < questionSize → printed input ≡ refusalLine 19 0
-printed-short input h = rw (lt-ltb (length input) questionSize h)

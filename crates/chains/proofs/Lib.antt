@@ -5,3 +5,4 @@ pub mod Kept
 pub mod Heard
 pub mod Ahead
 pub mod Putting
+pub mod Cut

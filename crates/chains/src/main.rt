@@ -1,7 +1,7 @@
 // Lists every chain that a question finds in a file: both come on standard input, the lines go to standard output.
 //
 // Nothing is decided here: `pages` makes what is printed, a page at a time, and its promise names every byte of it (specs/Pages). What
-// is left is to read, and to write each page before the next one is made. It streams, in fixed memory: a portion of ROOM chains is
+// is left is to read, and to write each page before the next one is made. It streams, in fixed memory: a portion of 4,096 chains is
 // printed before the next one is asked for. A write that fails, as to a closed pipe, ends it.
 mod onward;
 mod pages;
@@ -14,6 +14,7 @@ ghost use Prim.Native.Nat.{_≤_};
 ghost use lib.ListN.{length};
 ghost use Rattle.portion.specs.Listing.{recordSize};
 ghost use Rattle.text.specs.Printed.{longestLine};
+ghost use Rattle.chains.specs.Program.{longestInput};
 
 // 28 bytes of question and at most 53,348 bytes of file; one byte more tells that a file is too long.
 const LIMIT: usize = 53_377;
@@ -22,7 +23,7 @@ const CELLS: usize = 40_960;
 
 // Zeros for the input, and for the records of a portion. The `ensures` gives the length, which lending them as a slice needs.
 fn input_space() -> [u8; LIMIT]
-    ensures { λ r. ⌜ 53377 ≡ length r ⌝ }
+    ensures { λ r. ⌜ longestInput ≡ length r ⌝ }
 {
     [0; LIMIT]
 }

@@ -1,7 +1,6 @@
 -- `look_ahead` meets its contract: the laws say what is still to be printed in each case.
-use mathlib.Core.Path.{_≡_, sym, ap, _∙_}
+use mathlib.Core.Path.{sym, ap, _∙_}
 use mathlib.Core.List.{[], _∷_}
-use Prim.Native.Nat.{ℕ}
 use types.Run.{miss}
 use Rattle.chains.specs.Program.{inputSaid}
 use Rattle.chains.proofs.Ahead.{looked, look-short, look-long, look-on, look-refused, look-listed}
