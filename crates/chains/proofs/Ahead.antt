@@ -14,7 +14,8 @@ use Rattle.portion.specs.declared.Answer as answer
 use Rattle.text.specs.Decimal.{worth, Digits}
 use Rattle.chains.specs.Program.{questionSize, questionIn, asks, refused, heardIn}
 use Rattle.chains.specs.Onward.{toCome, OnTheWay, WentOn}
-use Rattle.chains.specs.Pages.{leftText, Lined, Ready, LookedAhead, refusalOf, Begins}
+use Rattle.chains.specs.Pages.{leftText, Lined, Ready, Begins}
+use Rattle.chains.specs.Inside.{LookedAhead, refusalOf}
 use Rattle.chains.specs.declared.pages.Left as code
 use Rattle.chains.specs.declared.pages.Progress.{Progress}
 use Rattle.chains.proofs.Heard.{asks-what, refused-what}
@@ -61,7 +62,7 @@ module _ (input bookmark counted cells : List ℕ) {left : code.Left} {started :
       on = rw (file-part input, asks-what input h .1) at went
 
       -- it is refused
-      pub look-refused : {number place : ℕ} {left′ : code.Left} → a ≡ answer.the-variants.Refused number place → left′ ≡ refusalOf a → LookedAhead input bookmark counted cells left bookmark′ counted′ cells′ left′
+      pub look-refused : {number place : ℕ} {left′ : code.Left} → a ≡ answer.the-variants.Refused number place → left′ ≡ refusalOf (answerSaid a) → LookedAhead input bookmark counted cells left bookmark′ counted′ cells′ left′
       look-refused e l = rw (l, e) (record { same = here ∙ on .refuses (ap answerSaid e); ready = tt; printable = tt })
 
       -- it has chains, or none

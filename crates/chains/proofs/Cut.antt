@@ -1,24 +1,27 @@
 -- An input longer than the program takes: 1, 2 or 3 refuses it, and what is left unread decides nothing.
-use mathlib.Core.Path.{_≡_, refl, sym, ap, ap₂, _∙_}
-use mathlib.Core.Bool.{Bool, true, false, cond, _&&_}
+use mathlib.Core.Path.{_≡_, refl, sym, ap, _∙_}
+use mathlib.Core.Bool.{Bool, true, false, cond}
 use mathlib.Core.List.{List, [], _∷_}
-use Prim.Native.Nat.{ℕ, zero, suc, _+_, _*_, _≤_, _<_}
+use Prim.Native.Nat.{ℕ, zero, suc, _+_, _≤_, _<_}
 use native.Mathlib.Omega.{arith}
-use lib.Dec.{leb, ltb, eqb}
-use borrow.Author.Tests.{le-leb, le-ltb, ltb-true, ltb-false, leb-true, leb-false}
-use lib.ListN.{length, take, drop, length-take, length-drop}
+use lib.Dec.{leb}
+use borrow.Author.Tests.{le-leb, le-ltb, leb-true, leb-false}
+use lib.ListN.{length, take, drop, length-drop}
 use native.Mathlib.Nat.{zero-add, suc-add}
 use lib.Seq.{getD-take, take-nil, take-all, length-take-le}
 use Rattle.linkfile.specs.Numbers.{number16, number32}
-use Rattle.linkfile.specs.Format.{marked, countsFit, laidOut, personCount, linkCount, feedCount}
-use Rattle.linkfile.specs.Verdict.{Fault, sound, fault, unless, firstOf}
+use Rattle.linkfile.specs.Format.{marked, countsFit, laidOut}
+use Rattle.linkfile.specs.Verdict.{fault, unless}
 use Rattle.linkfile.specs.Checked.{tablesFault, fileFault}
 use Rattle.linkfile.proofs.Counted.{counts-fit, laid-out-long}
 use Rattle.question.specs.declared.Question.{Question}
-use Rattle.question.specs.Asked.{askedFault, questionFault}
+use Rattle.question.specs.Asked.{askedFault}
 use Rattle.portion.specs.Listing.{listingFor}
 use Rattle.text.specs.Lines.{refusalLine}
 use Rattle.chains.specs.Program.{questionSize, questionIn, textFor, printed, longestInput, printedFor, longRefusal}
+use Rattle.chains.specs.Pages.{Begins, Run, laid}
+use Rattle.chains.specs.declared.pages.Progress.{Progress}
+use Rattle.chains.proofs.Putting.{laid-pages}
 
 -- ---- a file longer than any file
 long-fault : (file : List ℕ) → 53348 < length file → fileFault file ≡ fault (longRefusal file) 0
@@ -37,7 +40,7 @@ long-fault file h = go (marked file) (countsFit file) (laidOut file) refl refl
 long-text : (file : List ℕ) (q : Question) (chains : List (List ℕ)) → 53348 < length file → textFor (askedFault file q) chains 0 ≡ refusalLine (longRefusal file) 0
 long-text file q chains h = rw (long-fault file h)
 
--- ---- the first bytes decide which refusal, and what is asked
+-- ---- the first bytes decide which refusal it is
 number16-take : (n : ℕ) (l : List ℕ) (at : ℕ) → at + 1 < n → number16 (take n l) at ≡ number16 l at
 unfolding number16
 number16-take n l at h = rw (getD-take n l at 0 (omega arith), getD-take n l (at + 1) 0 h)
@@ -72,8 +75,8 @@ drop-take (suc m) n (x ∷ l) = rw suc-add (drop-take m n l)
 -- a file of more bytes than any has is refused by 1, 2 or 3
 pub long-printed : (input : List ℕ) → questionSize + 53348 < length input → printed input ≡ refusalLine (longRefusal (drop questionSize input)) 0
 long-printed input h =
-    let short : questionSize ≤ length input = omega arith in
-    rw (le-ltb (length input) questionSize short) (long-text (drop questionSize input) (questionIn input) (listingFor (drop questionSize input) (questionIn input)) (omega (arith, length-drop questionSize input)))
+    let asks : questionSize ≤ length input = omega arith in
+    rw (le-ltb (length input) questionSize asks) (long-text (drop questionSize input) (questionIn input) (listingFor (drop questionSize input) (questionIn input)) (omega (arith, length-drop questionSize input)))
 
 -- so many bytes of it are refused as the whole is
 cut-at : (n : ℕ) (input : List ℕ) → 53348 < n → questionSize + n ≤ length input → printed (take (questionSize + n) input) ≡ printed input
@@ -91,3 +94,7 @@ cut-same stdin = go (leb (length stdin) longestInput) refl
     go : (t : Bool) → leb (length stdin) longestInput ≡ t → printedFor stdin ≡ printed stdin
     go true t = ap printed (take-all longestInput stdin (leb-true (length stdin) longestInput t))
     go false t = cut-at 53349 stdin (omega arith) (omega (arith, leb-false (length stdin) longestInput t))
+
+-- whatever stands on standard input: the pages of a run over the bytes that are taken, laid end to end, are what is printed for it
+pub run-prints : (stdin : List ℕ) {cells : List ℕ} {progress : Progress} {pages : List (List ℕ)} → Begins progress → Run (take longestInput stdin) cells progress pages → laid pages ≡ printed stdin
+run-prints stdin b run = laid-pages b run ∙ cut-same stdin

@@ -35,7 +35,7 @@ use Rattle.text.specs.Decimal.{worth, Digits}
 use Rattle.text.specs.Lines.{chainLines, chainsAt, endLine, refusalLine, Records}
 use Rattle.text.proofs.Lining.{lines-append}
 use Rattle.chains.specs.Program.{textFor}
-use Rattle.chains.specs.Onward.{rest, toCome, OnTheWay, WentOn}
+use Rattle.chains.specs.Onward.{rest, OnTheWay, WentOn}
 use Rattle.chains.proofs.Bounded.{count-fits}
 use Rattle.chains.proofs.Lined.{chains-written, records-written}
 

@@ -18,7 +18,8 @@ use Rattle.text.specs.declared.Page as text
 use Rattle.text.proofs.Printing.{printed-length, printed-take}
 use Rattle.text.proofs.Lining.{lines-append, paged-moves}
 use Rattle.chains.specs.Program.{printed}
-use Rattle.chains.specs.Pages.{behindPortion, GoesOn, leftText, Lined, Printable, Ready, LookedAhead, PutPage, NextPage, leftBehind, toPrint, Begins, Run, done, next, laid}
+use Rattle.chains.specs.Pages.{behindPortion, GoesOn, leftText, Lined, Ready, NextPage, toPrint, Begins, Run, done, next, laid}
+use Rattle.chains.specs.Inside.{Printable, LookedAhead, PutPage, leftBehind}
 use Rattle.chains.specs.declared.pages.Left as code
 use Rattle.chains.specs.declared.pages.Progress.{Progress}
 use Rattle.chains.specs.declared.pages.Put.{Put}

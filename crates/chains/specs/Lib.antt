@@ -1,3 +1,4 @@
 pub mod Program
 pub mod Onward
 pub mod Pages
+pub mod Inside

@@ -6,14 +6,12 @@ use Prim.Native.Nat.{ℕ, _-_, _≤_, _<_}
 use lib.ListN.{length, take, drop}
 use lib.Dec.{ltb}
 use Rattle.portion.specs.Listing.{recordSize, Start, after as behind, startSaid}
-use Rattle.portion.specs.declared.Answer as answer
 use Rattle.text.specs.Decimal.{worth, Digits}
 use Rattle.text.specs.Lines.{chainLines, chainsAt, endLine, refusalLine, Records}
 use Rattle.chains.specs.Program.{questionSize, questionIn, printed}
 use Rattle.chains.specs.Onward.{toCome, OnTheWay}
 use Rattle.chains.specs.declared.pages.Left as code
 use Rattle.chains.specs.declared.pages.Progress.{Progress}
-use Rattle.chains.specs.declared.pages.Put.{Put}
 use Rattle.chains.specs.declared.pages.Page.{Page}
 
 -- what is still to be printed from a start on, where so many chains were printed before: a short input is refused
@@ -41,13 +39,6 @@ pub record Lined (counted cells : List ℕ) (next count : ℕ) (ended : Bool) : 
   pub digits : Digits counted
   pub some : ended ≡ false → next < count
 
--- what is left can be printed at once: no portion has to be asked for first
-abbrev pub Printable : List ℕ → List ℕ → code.Left → Type 0
-Printable counted cells (code.the-variants.Portion started) = ⊥
-Printable counted cells (code.the-variants.Lines next count ended) = Lined counted cells next count ended
-Printable counted cells (code.the-variants.Refusal number place) = Unit {0}
-Printable counted cells code.the-variants.Nothing = Unit {0}
-
 -- what is left can be printed: a portion that comes next, or behind the lines, goes on from the bookmark
 abbrev pub GoesOn : List ℕ → Start → List ℕ → List ℕ → List ℕ → Type 0
 GoesOn input start bookmark counted cells = OnTheWay (drop questionSize input) (questionIn input) start bookmark counted cells
@@ -58,33 +49,6 @@ Ready input bookmark counted cells (code.the-variants.Lines next count ended) = 
 Ready input bookmark counted cells (code.the-variants.Refusal number place) = Unit {0}
 Ready input bookmark counted cells code.the-variants.Nothing = Unit {0}
 
--- looking ahead leaves what is still to be printed as it was
-pub record LookedAhead (input bookmark counted cells : List ℕ) (left : code.Left) (bookmark′ counted′ cells′ : List ℕ) (left′ : code.Left) : Type 0 where
-  pub same : leftText input bookmark counted cells left ≡ leftText input bookmark′ counted′ cells′ left′
-  pub ready : Ready input bookmark′ counted′ cells′ left′
-  pub printable : Printable counted′ cells′ left′
-
--- the first lines of what is left stand at the beginning of the bytes, whatever follows them
-pub record PutPage (counted cells : List ℕ) (left : code.Left) (out′ : List ℕ) (put : Put) : Type 0 where
-  pub within : put .bytes ≤ length out′
-  pub text : (input bookmark : List ℕ) → leftText input bookmark counted cells left ≡ take (put .bytes) out′ ++ leftText input bookmark counted cells (put .left)
-  pub empty : put .bytes ≡ 0 → (input bookmark : List ℕ) → leftText input bookmark counted cells left ≡ []
-  pub ready : (input bookmark : List ℕ) → Ready input bookmark counted cells left → Ready input bookmark counted cells (put .left)
-
--- a refused portion leaves its line
-abbrev pub refusalOf : answer.Answer → code.Left
-refusalOf (answer.the-variants.Listed count ended) = code.the-variants.Nothing
-refusalOf (answer.the-variants.Refused number place) = code.the-variants.Refusal number place
-
--- behind the lines up to a record come the other lines; behind all, the last line or the next portion
-abbrev pub behindAll : ℕ → ℕ → Bool → code.Left
-behindAll next count true = code.the-variants.Lines next count true
-behindAll next count false = code.the-variants.Portion 1
-
-abbrev pub leftBehind : ℕ → ℕ → Bool → code.Left
-leftBehind next count ended = cond (ltb next count) (code.the-variants.Lines next count ended) (behindAll next count ended)
-
--- ---- the promise
 -- all that is still to be printed
 abbrev pub toPrint : List ℕ → List ℕ → Progress → List ℕ
 toPrint input cells progress = leftText input (progress .bookmark) (progress .counted) cells (progress .left)

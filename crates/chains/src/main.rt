@@ -1,8 +1,8 @@
 // Lists every chain that a question finds in a file: both come on standard input, the lines go to standard output.
 //
 // Nothing is decided here: `pages` makes what is printed, a page at a time, and its promise names every byte of it (specs/Pages). What
-// is left is to read, and to write each page before the next one is made. It streams, in fixed memory: a portion of 4,096 chains is
-// printed before the next one is asked for. A write that fails, as to a closed pipe, ends it.
+// is left is to read, and to write each page before the next one is made: no contract can say that. It streams, in fixed memory: a
+// portion of 4,096 chains is printed before the next one is asked for. A write that fails, as to a closed pipe, ends it.
 mod onward;
 mod pages;
 mod reading;

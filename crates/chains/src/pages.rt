@@ -1,6 +1,8 @@
-// What is printed, page by page: the next bytes are put at the beginning of lent bytes, and what is still to be printed is said.
+// What is printed, page by page.
 //
-// The pages laid end to end are all that is printed: the law `laid-pages` of proofs/Putting.
+// `next_page` puts the next bytes at the beginning of lent bytes and answers how far it came. What was still to be printed before is
+// these bytes and what is still to be printed after them; at the start that is all that the program prints (specs/Pages). So the pages
+// laid end to end are `printed input`: the law `laid-pages` of proofs/Putting.
 use crate::onward::go_on;
 use crate::reading::Input;
 use crate::reading::QUESTION;
@@ -11,8 +13,10 @@ use text::DIGITS;
 ghost use mathlib.Core.Path.{_≡_};
 ghost use Prim.Native.Nat.{_≤_};
 ghost use lib.ListN.{length};
+ghost use Rattle.portion.specs.Answers.{answerSaid};
 ghost use Rattle.text.specs.Printed.{longestLine};
-ghost use Rattle.chains.specs.Pages.{Begins, Ready, Standing, Printable, LookedAhead, PutPage, NextPage, refusalOf, leftBehind};
+ghost use Rattle.chains.specs.Pages.{Begins, Ready, Standing, NextPage};
+ghost use Rattle.chains.specs.Inside.{Printable, LookedAhead, PutPage, refusalOf, leftBehind};
 
 // What is still to be printed.
 pub enum Left {
@@ -64,7 +68,7 @@ pub fn begin() -> Progress
 }
 
 fn refusal(answer: Answer) -> Left
-    ensures { λ r. ⌜ r ≡ refusalOf answer ⌝ }
+    ensures { λ r. ⌜ r ≡ refusalOf (answerSaid answer) ⌝ }
 {
     let Answer::Refused { number, place } = answer else {
         return Left::Nothing;
