@@ -189,6 +189,9 @@ fn inputs_longer_than_it_takes() {
         let mut long = file.clone();
         long.resize(file.len() + more, 0);
         assert_eq!(agree(&input_of(&long, &Q)), "refused 3 at 0\n");
+        // A person count of 0, then no mark: the earlier refusals come first.
+        long[4..8].fill(0);
+        assert_eq!(agree(&input_of(&long, &Q)), "refused 2 at 0\n");
         long[0] = 0;
         assert_eq!(agree(&input_of(&long, &Q)), "refused 1 at 0\n");
     }

@@ -1,10 +1,10 @@
 -- How many chains there can be: at most 1,024 ways on from each person, so at most 1,024 to the most hops of them.
-use mathlib.Core.Path.{_≡_, refl, ap, subst, _∙_}
+use mathlib.Core.Path.{_≡_, refl}
 use mathlib.Core.Bool.{Bool, true, false, cond}
-use mathlib.Core.List.{List, [], _∷_, _++_, map, flatMap, List·Memᴰ·head, List·Memᴰ·tail}
+use mathlib.Core.List.{List, [], _∷_, map, flatMap, List·Memᴰ·head, List·Memᴰ·tail}
 use Prim.Native.Nat.{ℕ, zero, suc, _+_, _*_, _^_, _≤_, _<_}
 use native.Mathlib.Omega.{arith}
-use native.Mathlib.Nat.{pow-suc, one-le-pow, mul-le-mul-left, mul-le-mul-right, pow-le-pow-right, suc-mul, mul-comm, le-trans, lt-of-le-of-lt}
+use native.Mathlib.Nat.{pow-suc, one-le-pow, mul-le-mul-right, pow-le-pow-right, suc-mul, mul-comm, le-trans, lt-of-le-of-lt}
 use lib.Dec.{eqb, lit<}
 use lib.ListN.{length, length-append, length-map}
 use Rattle.linkfile.specs.Verdict.{sound}

@@ -1,42 +1,32 @@
 -- Going on by a portion: what was to come is its lines, and what is to come after it.
 use mathlib.Core.Path.{_≡_, refl, sym, ap, subst, _∙_}
-use mathlib.Core.Logic.{_⊎_, inl, inr}
-use mathlib.Core.Bool.{Bool, true, false, cond}
-use mathlib.Core.List.{List, [], _∷_, _++_, append-assoc, map, List·Memᴰ·head, List·Memᴰ·tail}
-use Prim.Native.Nat.{ℕ, zero, suc, _+_, _-_, _*_, _/_, _^_, _≤_, _<_}
+use mathlib.Core.Bool.{Bool, true, false}
+use mathlib.Core.List.{List, _++_, append-assoc}
+use Prim.Native.Nat.{ℕ, _+_, _-_, _*_, _^_, _≤_, _<_}
 use native.Mathlib.Omega.{arith}
 use native.Mathlib.Nat.{lt-of-le-of-lt}
-use borrow.Author.Tests.{le-leb, leb-true, leb-false, le-ltb, lt-ltb}
+use borrow.Author.Tests.{le-leb, leb-true, leb-false}
 use lib.ListN.{length, take, drop, length-take, length-drop, take-append-drop}
 use lib.Seq.{take-all, length-take-le}
-use Rattle.linkfile.specs.Verdict.{Fault, sound, fault, unless, firstOf}
-use Rattle.linkfile.proofs.Passed.{sound-rules}
+use Rattle.linkfile.specs.Verdict.{Fault, sound, fault, firstOf}
 use Rattle.ways.specs.Graph.{_∈_}
-use Rattle.ways.specs.Order.{Before, before, Rising}
-use Rattle.ways.specs.Listing.{ways, listing}
-use Rattle.ways.specs.Portions.{after, portion, endedAfter, lastOr}
-use Rattle.ways.specs.Records.{Fits, recordOf, chainOf, cellsOf, written, roomOf}
+use Rattle.ways.specs.Portions.{after, lastOr}
+use Rattle.ways.specs.Records.{Fits, cellsOf, written, roomOf}
 use Rattle.ways.specs.Sizes.{recordSize}
-use Rattle.ways.proofs.Portions.{lastOr-cases, after-portion}
-use Rattle.ways.proofs.After.{after-from}
-use Rattle.ways.proofs.Members.{take-in}
-use Rattle.ways.proofs.Ordered.{ordered}
-use Rattle.ways.proofs.Records.{listing-fits, length-recordOf, length-written, chainOf-recordOf, shaped-recordOf, isRecordIn-iff}
+use Rattle.ways.proofs.Portions.{after-portion}
+use Rattle.ways.proofs.Records.{length-written}
 use Rattle.question.specs.declared.Question.{Question}
 use Rattle.question.specs.Asked.{askedFault}
-use Rattle.question.specs.Admission.{next}
-use Rattle.question.proofs.Leads.{next-rising}
-use Rattle.portion.specs.Listing.{listingFor, Start, fresh, bookmarked as behind, startSaid, startsAfter, startFault, portionFault, portionFor, endedFor}
-use Rattle.portion.specs.Answers.{Answer, listed, refused, answerSaid, answerFor, cellsFor, Portioned}
+use Rattle.portion.specs.Listing.{listingFor, Start, bookmarked, startSaid, startsAfter, portionFault, portionFor, endedFor}
+use Rattle.portion.specs.Answers.{Answer, listed, refused, answerSaid, answerFor, Portioned}
 use Rattle.portion.specs.EndToEnd.{lastRecord}
 use Rattle.portion.specs.declared.Answer as code
-use Rattle.portion.proofs.Starting.{asked-file, asked-proper}
-use Rattle.portion.proofs.Records.{last-record}
+use Rattle.portion.proofs.Known.{portion-in, fresh-all, rises, fits, Kept, last-kept}
 use Rattle.text.specs.Decimal.{worth, Digits}
 use Rattle.text.specs.Lines.{chainLines, chainsAt, endLine, refusalLine, Records}
 use Rattle.text.proofs.Lining.{lines-append}
-use Rattle.chains.specs.Program.{questionSize, questionIn, textFor, printed}
-use Rattle.chains.specs.Onward.{rest, toCome, OnTheWay, WentOn}
+use Rattle.chains.specs.Program.{textFor}
+use Rattle.chains.specs.Onward.{rest, OnTheWay, WentOn}
 use Rattle.chains.proofs.Bounded.{count-fits}
 use Rattle.chains.proofs.Lined.{chains-written, records-written}
 
@@ -55,41 +45,6 @@ true-false e = let z : _≡_ {A = ℕ} 0 1 = cc in omega arith
 
 same-count : {cells : List ℕ} {m n : ℕ} {a b : Bool} → listed m a ≡ listed n b → Records cells m → Records cells n
 same-count {cells} e r = subst (λ (count : ℕ). Records cells count) (count-same e) r
-
--- a portion of a listing that passed
-module _ (file : List ℕ) (q : Question) (asked : askedFault file q ≡ sound) where
-  rises : Rising Before (listingFor file q)
-  rises = ordered (next file q) (next-rising (sound-rules file (asked-file file q asked)) q) (q .from) (q .to) (q .hops)
-
-  fits : (c : List ℕ) → c ∈ listingFor file q → Fits recordSize c
-  fits = listing-fits (next file q) (q .from) (q .to) (q .hops) recordSize (omega (arith, asked-proper file q asked .most))
-
-  portion-in : (start : Start) (cells : List ℕ) (c : List ℕ) → c ∈ portionFor file q start cells → c ∈ listingFor file q
-  portion-in start cells c m = after-from (startsAfter start) (listingFor file q) (take-in (roomOf recordSize (length cells)) (rest file q start) m) .0
-
-  -- behind the last of its chains
-  record Behind (b : List ℕ) (bookmark : List ℕ) : Type 0 where
-    mark : chainOf bookmark ≡ b
-    whole : length bookmark ≡ recordSize
-    passing : startFault (listingFor file q) (behind bookmark) ≡ sound
-
-  last-behind : (b : List ℕ) (P : List (List ℕ)) (more : List ℕ) → 1 ≤ length P → ((c : List ℕ) → c ∈ P → c ∈ listingFor file q) → Behind (lastOr b P) (lastRecord (length P) (cellsOf recordSize P ++ more))
-  last-behind b [] more h inside = absurd (omega arith)
-  last-behind b (c ∷ P) more h inside =
-      let last = last-record recordSize c P more (λ d m. fits d (inside d m)) in
-      let same : suc (length P) - 1 ≡ length P = omega arith in
-      let member : lastOr c P ∈ listingFor file q = inside (lastOr c P) (in-cons (lastOr-cases c P)) in
-      let fit = fits (lastOr c P) member in
-      let back = chainOf-recordOf recordSize (lastOr c P) (fit .some) in
-      record {
-        mark = rw (same, last) back;
-        whole = rw (same, last) (length-recordOf recordSize (lastOr c P) (fit .room));
-        passing = rw (same, last, isRecordIn-iff recordSize (listingFor file q) (recordOf recordSize (lastOr c P)) fits .1 (shaped-recordOf recordSize (lastOr c P) fit, subst (λ d. d ∈ listingFor file q) (sym back) member));
-      }
-    where
-      in-cons : (lastOr c P ≡ c) ⊎ (lastOr c P ∈ P) → lastOr c P ∈ c ∷ P
-      in-cons (inl e) = List·Memᴰ·head e
-      in-cons (inr m) = List·Memᴰ·tail m
 
 module _ {file : List ℕ} {q : Question} {start : Start} {bookmark counted cells : List ℕ} (k : OnTheWay file q start bookmark counted cells) where
   -- on the way a portion is refused only for the file or the question
@@ -136,7 +91,7 @@ module _ {file : List ℕ} {q : Question} {start : Start} {bookmark counted cell
       way-cells = p .cells ∙ rw way-none
 
       way-fits : (c : List ℕ) → c ∈ portionFor file q start cells → Fits recordSize c
-      way-fits c m = fits file q way-asked c (portion-in file q way-asked start cells c m)
+      way-fits c m = fits file q way-asked c (portion-in file q start cells m)
 
       pub way-records : Records cells′ count
       way-records = rw (way-many, way-cells) (records-written (portionFor file q start cells) (drop (length (portionFor file q start cells) * recordSize) cells) way-fits)
@@ -194,9 +149,9 @@ module _ {file : List ℕ} {q : Question} {start : Start} {bookmark counted cell
             let L = listingFor file q in
             let more = way-more e in
             let full = way-full e in
-            let on : Behind file q way-asked (lastOr (startsAfter start) P) bookmark′ = subst (λ (m : List ℕ). Behind file q way-asked (lastOr (startsAfter start) P) m) (sym (b ∙ rw (way-many, way-cells)))
-            (last-behind file q way-asked (startsAfter start) P (drop (length P * recordSize) cells) (omega (arith, full, k .room)) (portion-in file q way-asked start cells)) in
-            let left : rest file q (behind bookmark′) ≡ drop room R = ap (λ (c : List ℕ). after c L) (on .mark) ∙ after-portion L (rises file q way-asked) (startsAfter start) room in
+            let on : Kept file q way-asked bookmark′ (lastOr (startsAfter start) P) = subst (λ (m : List ℕ). Kept file q way-asked m (lastOr (startsAfter start) P)) (sym (b ∙ rw (way-many, way-cells)))
+            (last-kept file q way-asked (startsAfter start) P (drop (length P * recordSize) cells) (omega (arith, full, k .room)) (λ c m. portion-in file q start cells m)) in
+            let left : rest file q (bookmarked bookmark′) ≡ drop room R = ap (λ (c : List ℕ). after c L) (on .mark) ∙ after-portion L (rises file q way-asked) (startsAfter start) room in
             let short = length-drop room R in
             let same : worth counted′ + length (drop room R) ≡ worth counted + length R = omega (arith, w, way-many, full, short) in
             let parts : chainLines R ≡ chainLines P ++ chainLines (drop room R) = ap chainLines (sym (take-append-drop room R)) ∙ lines-append P (drop room R) in
@@ -207,26 +162,10 @@ module _ {file : List ℕ} {q : Question} {start : Start} {bookmark counted cell
               goes = λ x. (
                 record { digits = d; room = omega (arith, way-length, k .room); whole = on .whole; passing = on .passing; sum = rw left (same ∙ k .sum) },
                 rw (← count-same x, way-asked, way-chains, left, same) (ap (λ (t : List ℕ). t ++ endLine (worth counted + length R)) parts ∙ append-assoc (chainLines P) (chainLines (drop room R)) (endLine (worth counted + length R))),
-                rw left (omega (arith, short, k .room)),
+                omega (arith, count-same x, way-last e .0),
               );
             }
 
 -- ---- the start: everything is to come
-first-all : (s : ℕ) (L : List (List ℕ)) → after [] (map (_∷_ s) L) ≡ map (_∷_ s) L
-unfolding after before
-first-all s [] = refl
-first-all s (c ∷ L) = ap (_∷_ (s ∷ c)) (first-all s L)
-
-pub fresh-rest : (file : List ℕ) (q : Question) → rest file q fresh ≡ listingFor file q
-unfolding listing
-fresh-rest file q = first-all (q .from) (ways (next file q) (q .to) (q .hops) (q .from ∷ []) (q .from))
-
 pub way-starts : {file : List ℕ} {q : Question} {bookmark counted cells : List ℕ} → Digits counted → worth counted ≡ 0 → recordSize ≤ length cells → length bookmark ≡ recordSize → OnTheWay file q (startSaid 0 bookmark) bookmark counted cells
-way-starts {file} {q} d w h l = record { digits = d; room = h; whole = l; passing = refl; sum = omega (arith, w, ap length (fresh-rest file q)) }
-
--- the program prints what is to come from a fresh start on, and a refusal of its own before that
-pub printed-all : (input : List ℕ) → questionSize ≤ length input → printed input ≡ toCome (drop questionSize input) (questionIn input) fresh 0
-printed-all input h = rw (le-ltb (length input) questionSize h, fresh-rest (drop questionSize input) (questionIn input))
-
-pub printed-short : (input : List ℕ) → length input < questionSize → printed input ≡ refusalLine 19 0
-printed-short input h = rw (lt-ltb (length input) questionSize h)
+way-starts {file} {q} d w h l = record { digits = d; room = h; whole = l; passing = refl; sum = omega (arith, w, ap length (fresh-all file q)) }

@@ -4,3 +4,6 @@ pub mod Lined
 pub mod Going
 pub mod Kept
 pub mod Heard
+pub mod Ahead
+pub mod Putting
+pub mod Cut

@@ -10,7 +10,7 @@ use Rattle.ways.specs.Graph.{_∈_}
 use Rattle.ways.specs.Records.{Fits, recordOf, chainOf, cellsOf}
 use Rattle.ways.specs.Sizes.{recordSize, mostHops}
 use Rattle.ways.proofs.Records.{length-recordOf}
-use Rattle.text.specs.Lines.{chainAt, chainsAt, RecordAt, Records}
+use Rattle.text.specs.Lines.{chainsAt, RecordAt, Records}
 
 -- the record at the head of cells
 chain-head : (c rest : List ℕ) → Fits recordSize c → chainOf (recordOf recordSize c ++ rest) ≡ c

@@ -2,7 +2,7 @@
 use mathlib.Core.Path.{_≡_}
 use mathlib.Core.List.{List, _++_}
 use mathlib.Core.Bool.{Bool, true, false}
-use Prim.Native.Nat.{ℕ, _+_, _≤_, _<_}
+use Prim.Native.Nat.{ℕ, _+_, _≤_}
 use lib.ListN.{length}
 use Rattle.linkfile.specs.Verdict.{sound}
 use Rattle.ways.specs.Portions.{after}
@@ -32,7 +32,7 @@ pub record OnTheWay (file : List ℕ) (q : Question) (start : Start) (bookmark c
   pub sum : worth counted + length (rest file q start) ≡ length (listingFor file q)
 
 -- going on by a portion: what was to come is a refusal's line; or the lines of the chains that are in the cells now, and then the last
--- line, or what is to come from the last of them on, which is less
+-- line, or what is to come from the last of them on
 pub record WentOn (file : List ℕ) (q : Question) (start : Start) (before : ℕ) (bookmark′ counted′ cells′ : List ℕ) (answer : Answer) : Type 0 where
   pub refuses : {number place : ℕ} → answer ≡ refused number place → toCome file q start before ≡ refusalLine number place
   pub lists : {count : ℕ} {ended : Bool} → answer ≡ listed count ended → Records cells′ count
@@ -41,4 +41,4 @@ pub record WentOn (file : List ℕ) (q : Question) (start : Start) (before : ℕ
   pub goes : {count : ℕ} → answer ≡ listed count false
       → OnTheWay file q (bookmarked bookmark′) bookmark′ counted′ cells′
       × (toCome file q start before ≡ chainLines (chainsAt cells′ 0 count) ++ toCome file q (bookmarked bookmark′) (worth counted′))
-      × (length (rest file q (bookmarked bookmark′)) < length (rest file q start))
+      × (1 ≤ count)

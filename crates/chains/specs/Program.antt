@@ -2,9 +2,10 @@
 use mathlib.Core.List.{List, _++_}
 use mathlib.Core.Bool.{cond}
 use Prim.Native.Nat.{ℕ, _+_}
-use lib.ListN.{length, drop}
+use lib.ListN.{length, take, drop}
 use lib.Dec.{ltb}
 use Rattle.linkfile.specs.Numbers.{number32}
+use Rattle.linkfile.specs.Format.{marked, countsFit}
 use Rattle.linkfile.specs.Verdict.{Fault, sound, fault}
 use Rattle.question.specs.declared.Question.{Question}
 use Rattle.question.specs.Asked.{askedFault}
@@ -28,9 +29,19 @@ questionIn input = record {
   last = number32 input 24;
 }
 
+-- what is heard: a question, or a refusal with its number and place
+pub data Heard : Type 0 where
+  asks : Question → Heard
+  refused : ℕ → ℕ → Heard
+
+-- what the code's enum says, in these words
+abbrev pub inputSaid : code.Input → Heard
+inputSaid (code.the-variants.Asks q) = asks q
+inputSaid (code.the-variants.Refused number place) = refused number place
+
 -- 19: "program: input under 28 bytes", place 0; "19 precedes all"
-abbrev pub heardIn : List ℕ → code.Input
-heardIn input = cond (ltb (length input) questionSize) (code.the-variants.Refused 19 0) (code.the-variants.Asks (questionIn input))
+abbrev pub heardIn : List ℕ → Heard
+heardIn input = cond (ltb (length input) questionSize) (refused 19 0) (asks (questionIn input))
 
 -- "A refusal prints only `refused R at P`." Otherwise a line for each chain, "then `end`, a space and the number of chains":
 -- of these chains, where so many were printed before them
@@ -38,9 +49,20 @@ abbrev pub textFor : Fault → List (List ℕ) → ℕ → List ℕ
 textFor sound chains before = chainLines chains ++ endLine (before + length chains)
 textFor (fault number place) chains before = refusalLine number place
 
--- "reads from standard input seven 32-bit numbers, then the file": all that is printed. (Of a longer input the first 28 + 53,349
--- bytes are the input here.)
+-- "reads from standard input seven 32-bit numbers, then the file": all that is printed for such an input
 abbrev pub printed : List ℕ → List ℕ
 printed input =
     cond (ltb (length input) questionSize) (refusalLine 19 0)
     (textFor (askedFault (drop questionSize input) (questionIn input)) (listingFor (drop questionSize input) (questionIn input)) 0)
+
+-- "Of a longer input it takes 28 + 53,349 bytes": what is printed for what stands on standard input. The cut changes nothing, whatever
+-- follows: the law `cut-same` of proofs/Cut.
+abbrev pub longestInput : ℕ
+longestInput = questionSize + 53349
+
+abbrev pub printedFor : List ℕ → List ℕ
+printedFor stdin = printed (take longestInput stdin)
+
+-- "which 3 refuses unless 1 or 2 does"
+abbrev pub longRefusal : List ℕ → ℕ
+longRefusal file = cond (marked file) (cond (countsFit file) 3 2) 1

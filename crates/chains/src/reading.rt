@@ -2,7 +2,7 @@
 use linkfile::numbers::number32;
 use question::Question;
 ghost use mathlib.Core.Path.{_≡_};
-ghost use Rattle.chains.specs.Program.{heardIn};
+ghost use Rattle.chains.specs.Program.{heardIn, inputSaid};
 
 // The bytes of a question.
 pub const QUESTION: usize = 28;
@@ -13,7 +13,7 @@ pub enum Input {
 }
 
 pub fn heard(input: &[u8]) -> Input
-    ensures { λ r. ⌜ r ≡ heardIn (now (input .entry)) ⌝ }
+    ensures { λ r. ⌜ inputSaid r ≡ heardIn (now (input .entry)) ⌝ }
 {
     if input.len() < QUESTION {
         return Input::Refused {

@@ -72,7 +72,7 @@ module _ (file : List ℕ) (q : Question) where
     portion-lists : {out out′ : List ℕ} {answer : Answer} → recordSize ≤ length out → Portioned file q fresh out out′ answer → Lists (listingFor file q) out out′ answer
     portion-lists {out} h p =
         let passing = passes file q asked fresh out refl h in
-        record { says = p .answers ∙ rw (passing, fresh-all file q asked); cells = p .cells ∙ rw (passing, fresh-all file q asked) }
+        record { says = p .answers ∙ rw (passing, fresh-all file q); cells = p .cells ∙ rw (passing, fresh-all file q) }
 
     join-lists : {working working′ out out′ : List ℕ} {answer : Answer} → recordSize ≤ length out → halvesFault recordSize (length working) (halvesFor file q) ≡ sound
         → Joins file q working working′ out out′ answer → Lists (chainsFor file q) out out′ answer

@@ -1,7 +1,7 @@
 -- What is known of the listing of a file and a question that pass, of a portion of it, and of a bookmark in it.
-use mathlib.Core.Path.{_≡_, refl}
+use mathlib.Core.Path.{_≡_, refl, ap}
 use mathlib.Core.Logic.{_⊎_, inl, inr}
-use mathlib.Core.List.{List, [], _∷_, _++_, List·Memᴰ·head, List·Memᴰ·tail}
+use mathlib.Core.List.{List, [], _∷_, _++_, map, List·Memᴰ·head, List·Memᴰ·tail}
 use Prim.Native.Nat.{ℕ, suc, _-_, _<_, _≤_}
 use native.Mathlib.Omega.{arith}
 use lib.ListN.{length}
@@ -9,12 +9,13 @@ use borrow.Author.Tests.{le-leb}
 use Rattle.linkfile.specs.Verdict.{sound}
 use Rattle.linkfile.proofs.Passed.{sound-rules}
 use Rattle.ways.specs.Graph.{_∈_}
-use Rattle.ways.specs.Order.{Before, Rising}
+use Rattle.ways.specs.Order.{Before, before, Rising}
+use Rattle.ways.specs.Listing.{ways, listing}
 use Rattle.ways.specs.Portions.{after, lastOr}
 use Rattle.ways.specs.Records.{Fits, recordOf, chainOf, cellsOf, roomOf}
 use Rattle.ways.specs.Sizes.{recordSize}
-use Rattle.ways.proofs.Portions.{lastOr-cases, real-chains}
-use Rattle.ways.proofs.After.{after-from, after-all}
+use Rattle.ways.proofs.Portions.{lastOr-cases}
+use Rattle.ways.proofs.After.{after-from}
 use Rattle.ways.proofs.Members.{take-in}
 use Rattle.ways.proofs.Ordered.{ordered}
 use Rattle.ways.proofs.Records.{listing-fits, length-recordOf, chainOf-recordOf, true-isRecordIn}
@@ -39,6 +40,16 @@ last-in c P = go (lastOr-cases c P)
 pub portion-in : (file : List ℕ) (q : Question) (start : Start) (out : List ℕ) {c : List ℕ} → c ∈ portionFor file q start out → c ∈ listingFor file q
 portion-in file q start out m = after-from (startsAfter start) (listingFor file q) (take-in (roomOf recordSize (length out)) (after (startsAfter start) (listingFor file q)) m) .0
 
+-- a fresh start has all chains before it
+first-all : (s : ℕ) (L : List (List ℕ)) → after [] (map (_∷_ s) L) ≡ map (_∷_ s) L
+unfolding after before
+first-all s [] = refl
+first-all s (c ∷ L) = ap (_∷_ (s ∷ c)) (first-all s L)
+
+pub fresh-all : (file : List ℕ) (q : Question) → after [] (listingFor file q) ≡ listingFor file q
+unfolding listing
+fresh-all file q = first-all (q .from) (ways (next file q) (q .to) (q .hops) (q .from ∷ []) (q .from))
+
 module _ (file : List ℕ) (q : Question) (asked : askedFault file q ≡ sound) where
   pub rows : (p : ℕ) → Rising _<_ (next file q p)
   rows = next-rising (sound-rules file (asked-file file q asked)) q
@@ -48,10 +59,6 @@ module _ (file : List ℕ) (q : Question) (asked : askedFault file q ≡ sound) 
 
   pub fits : (c : List ℕ) → c ∈ listingFor file q → Fits recordSize c
   fits = listing-fits (next file q) (q .from) (q .to) (q .hops) recordSize (omega (arith, asked-proper file q asked .most))
-
-  -- a fresh start has all chains before it
-  pub fresh-all : after [] (listingFor file q) ≡ listingFor file q
-  fresh-all = after-all [] (listingFor file q) (real-chains (next file q) rows (q .from) (q .to) (q .hops))
 
   -- with room for a record, a start that passes is not refused
   pub passes : (start : Start) (out : List ℕ) → startFault (listingFor file q) start ≡ sound → recordSize ≤ length out → portionFault file q start out ≡ sound
@@ -74,8 +81,9 @@ module _ (file : List ℕ) (q : Question) (asked : askedFault file q ≡ sound) 
       }
 
   -- so is the last of the records that were written
-  pub last-kept : (c : List ℕ) (P : List (List ℕ)) (rest : List ℕ) → ((d : List ℕ) → d ∈ c ∷ P → d ∈ listingFor file q) → Kept (lastRecord (suc (length P)) (cellsOf recordSize (c ∷ P) ++ rest)) (lastOr c P)
-  last-kept c P rest inside =
+  pub last-kept : (b : List ℕ) (P : List (List ℕ)) (rest : List ℕ) → 1 ≤ length P → ((d : List ℕ) → d ∈ P → d ∈ listingFor file q) → Kept (lastRecord (length P) (cellsOf recordSize P ++ rest)) (lastOr b P)
+  last-kept b [] rest some inside = absurd (omega arith)
+  last-kept b (c ∷ P) rest some inside =
       let same : length P ≡ suc (length P) - 1 = omega arith in
       let stands = last-record recordSize c P rest (λ d m. fits d (inside d m)) in
       rw (← same, stands) (kept (lastOr c P) (inside (lastOr c P) (last-in c P)))

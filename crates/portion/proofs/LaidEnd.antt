@@ -2,6 +2,7 @@
 use mathlib.Core.Path.{_≡_, refl, sym, ap, ap₂, _∙_}
 use mathlib.Core.List.{List, [], _∷_, _++_}
 use Prim.Native.Nat.{ℕ, _+_, _*_, _-_}
+use native.Mathlib.Omega.{arith}
 use lib.ListN.{length, take, drop}
 use lib.Seq.{take-at, take-add, drop-drop, drop-append-add}
 use Rattle.linkfile.specs.Verdict.{sound}
@@ -42,7 +43,7 @@ module _ (file : List ℕ) (q : Question) (asked : askedFault file q ≡ sound) 
   behind : (start : Start) (P : List (List ℕ)) (rest : List ℕ) → startFault (listingFor file q) start ≡ sound → ((c : List ℕ) → c ∈ P → c ∈ listingFor file q)
       → Behind (startBehind start (length P) (cellsOf recordSize P ++ rest)) (lastOr (startsAfter start) P)
   behind start [] rest s inside = record { mark = refl; passing = s }
-  behind start (c ∷ P) rest s inside = let k = last-kept file q asked c P rest inside in record { mark = k .mark; passing = k .passing }
+  behind start (c ∷ P) rest s inside = let k = last-kept file q asked (startsAfter start) (c ∷ P) rest (omega arith) inside in record { mark = k .mark; passing = k .passing }
 
   -- n chains were handed over before the run starts
   run-laid : (calls : List Call) (start : Start) (n : ℕ) → startFault (listingFor file q) start ≡ sound → after (startsAfter start) (listingFor file q) ≡ drop n (listingFor file q) → Run file q start calls
@@ -68,7 +69,7 @@ module _ (file : List ℕ) (q : Question) (asked : askedFault file q ≡ sound) 
 -- any run of calls from a fresh start
 pub laid-end-to-end : (file : List ℕ) (q : Question) → askedFault file q ≡ sound → {calls : List Call} → Run file q fresh calls → LaidEndToEnd file q calls
 laid-end-to-end file q asked {calls} r =
-    let laid = run-laid file q asked calls fresh 0 refl (fresh-all file q asked) r in
+    let laid = run-laid file q asked calls fresh 0 refl (fresh-all file q) r in
     record { cells = laid .0; ends = laid .1 }
 
 -- and from a bookmark that passes

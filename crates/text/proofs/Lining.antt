@@ -1,5 +1,5 @@
 -- Records as lines.
-use mathlib.Core.Path.{_≡_, refl, sym, ap, _∙_}
+use mathlib.Core.Path.{_≡_, refl, ap, _∙_}
 use mathlib.Core.List.{List, [], _∷_, _++_, append-assoc, append-nil}
 use Prim.Native.Nat.{ℕ, zero, suc, _+_, _-_, _*_, _≤_, _<_, _^_}
 use native.Mathlib.Omega.{arith}
@@ -9,7 +9,7 @@ use borrow.Author.Tests.{ltb-true, ltb-false}
 use native.Mathlib.Nat.{add-zero, zero-add, suc-add}
 use native.Mathlib.Numerals.{add-one}
 use lib.ListN.{length, getD, take, drop, set, length-drop}
-use lib.Seq.{slice, slice-cons, slice-empty, drop-cons, drop-length, take-nil, length-take-le, length-slice}
+use lib.Seq.{slice, slice-cons, slice-empty, drop-cons, drop-length, take-nil, length-take-le}
 use Rattle.ways.specs.Chain.{hops}
 use Rattle.ways.specs.Records.{chainOf}
 use Rattle.ways.specs.Sizes.{recordSize}
