@@ -73,6 +73,17 @@ example() {
   holds "$words: an empty file" refuses_nothing_at_all "$@"
 }
 
+# The program to make, the compiler and its options, the source. A warning is a failure.
+compile() {
+  local program=$work/$1
+  shift
+  "$@" -pedantic -Wall -Wextra -Werror -O2 -I include -x none target/staticlib/liboutside.a -o "$program"
+}
+
+calls_every_function() {
+  compile calls "$@" && "$work/calls" < examples/six_persons.klf
+}
+
 cargo_tests tests
 
 cargo_tests bindings/rust
@@ -82,9 +93,10 @@ holds "shared library" bash bindings/python/build.sh
 python_tests bindings/python/test_kin.py
 example "Python example" python3 bindings/python/ask.py
 
-holds "C example, built" cc -std=c99 -pedantic -Wall -Wextra -Werror -O2 -I include examples/ask.c target/staticlib/liboutside.a -o "$work/ask"
+holds "every function from C" calls_every_function cc -std=c99 bindings/c/test_kin.c
+holds "every function from C++" calls_every_function c++ -std=c++11 -x c++ bindings/c/test_kin.c
+holds "C example, built" compile ask cc -std=c99 examples/ask.c
 example "C example" "$work/ask"
-holds "header in C++" c++ -std=c++11 -pedantic -Wall -Wextra -Werror -fsyntax-only -x c++ include/kin.h
 
 echo "$passed passed, $failed failed"
 [ "$failed" -eq 0 ]
