@@ -41,7 +41,7 @@ impl Random {
         Question {
             classes: self.number(16),
             meaning: self.number(2),
-            last_day: 700_000 + self.number(600),
+            last_day: self.number(600).wrapping_add(700_000),
             ..Question::between(self.number(6), self.number(6), self.number(9))
         }
     }
