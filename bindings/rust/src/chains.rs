@@ -3,7 +3,7 @@
 use std::iter::FusedIterator;
 use std::ops::Range;
 
-use crate::{chains_in, Answer, Chain, HeldListing, Question, Refused, RECORD_CELLS};
+use crate::{Answer, Chain, HeldListing, Question, Refused, RECORD_CELLS};
 
 /// Chains a portion, unless another room is asked for: 40 KB of cells. Each portion checks the file again.
 const ROOM: u16 = 1_024;
@@ -79,8 +79,8 @@ impl Iterator for Chains<'_> {
             }
         }
         let place = self.waiting.next()?;
-        let record = self.output.get(place * RECORD_CELLS..)?;
-        chains_in(record, 1).next().map(Ok)
+        let record = self.output.chunks_exact(RECORD_CELLS).nth(place)?;
+        Chain::from_record(record).map(Ok)
     }
 }
 
