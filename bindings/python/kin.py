@@ -129,7 +129,7 @@ class Portion(NamedTuple):
 
 
 class HeldListing:
-    """A question and how far its listing has come: not started, or as far as a chain."""
+    """A question and how far its listing has come: not started, or after a chain. Each call moves it on by a portion."""
 
     def __init__(self, question: Question, after: Sequence[int] | None = None) -> None:
         self._cells = _lent([*question, *_started_and_record(after)])
@@ -151,7 +151,8 @@ class HeldListing:
     def move_on(self, file: Bytes, room: int = ROOM) -> Portion:
         """The next chains, at most so many; the last one is kept. If there are none, or on a refusal, nothing changes here."""
         output = _cells(room)
-        return _portion(_library.kin_held(*_slice(self._cells), *_slice(_bytes(file)), *_slice(output)), output)
+        answer = _library.kin_held(*_slice(self._cells), *_slice(_bytes(file)), *_slice(output))
+        return _portion(answer, output)
 
 
 def check(file: Bytes) -> Counts:
