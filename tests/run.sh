@@ -1,27 +1,102 @@
 #!/usr/bin/env bash
-# The independent Rust tests over target/staticlib/liboutside.a and target/bin/chains, which have to stand. Shows what cargo
-# shows; the last line is the sum of its results, "N passed, M failed". Ends non-zero if a test failed, if cargo did, or if
-# none ran.
+# All tests over target/staticlib/liboutside.a and target/bin/chains, which have to stand: the independent Rust tests, the bindings for
+# Rust and Python, the header for C, and the example of each. Shows what every suite shows; the last line is the sum of their
+# results, "N passed, M failed". Ends non-zero if anything failed.
 set -u
-cd "$(dirname "${BASH_SOURCE[0]}")" || exit 1
+cd "$(dirname "${BASH_SOURCE[0]}")/.." || exit 1
 
-shown=$(mktemp) || exit 1
-trap 'rm -f "$shown"' EXIT
+work=$(mktemp -d) || exit 1
+trap 'rm -rf "$work"' EXIT
+shown=$work/shown
+passed=0
+failed=0
 
-# All test programs run, also after one has failed, so that the sum is whole.
-cargo test --release --offline --no-fail-fast 2>&1 | tee "$shown"
-status=${PIPESTATUS[0]}
+# Adds a suite: how it ended, how many of its tests passed, how many failed. One that died, that did not build or that ran nothing
+# leaves no result behind: it counts as one that failed.
+add() {
+  local status=$1 good=$2 bad=$3
+  if [ "$bad" -eq 0 ] && { [ "$status" -ne 0 ] || [ "$good" -eq 0 ]; }; then
+    bad=1
+  fi
+  passed=$((passed + good))
+  failed=$((failed + bad))
+}
 
 sum() {
-  sed -n "s/^test result: .* \([0-9][0-9]*\) $1;.*/\1/p" "$shown" | awk '{ all += $1 } END { print all + 0 }'
+  awk '{ all += $1 } END { print all + 0 }'
 }
-passed=$(sum passed)
-failed=$(sum failed)
 
-# A test program that died, or that did not build, leaves no result behind: it counts as one that failed.
-if [ "$failed" -eq 0 ] && { [ "$status" -ne 0 ] || [ "$passed" -eq 0 ]; }; then
-  failed=1
-fi
+# All test programs of a package run, also after one has failed, so that the sum is whole.
+cargo_tests() {
+  cargo test --release --offline --no-fail-fast --manifest-path "$1/Cargo.toml" 2>&1 | tee "$shown"
+  local status=${PIPESTATUS[0]} good bad
+  good=$(sed -n 's/^test result: .* \([0-9]*\) passed;.*/\1/p' "$shown" | sum)
+  bad=$(sed -n 's/^test result: .* \([0-9]*\) failed;.*/\1/p' "$shown" | sum)
+  add "$status" "$good" "$bad"
+}
+
+# The last line is OK, or counts in brackets what did not simply pass: failures, errors, skipped tests.
+python_tests() {
+  python3 "$1" 2>&1 | tee "$shown"
+  local status=${PIPESTATUS[0]} ran bad
+  ran=$(sed -n 's/^Ran \([0-9]*\) tests\{0,1\} in .*/\1/p' "$shown" | sum)
+  bad=$(sed -n '$p' "$shown" | grep -o '=[0-9]*' | tr -d = | sum)
+  add "$status" $((ran > bad ? ran - bad : 0)) "$bad"
+}
+
+# One test: a command that has to end well.
+holds() {
+  local words=$1
+  shift
+  if "$@"; then
+    echo "$words ... ok"
+    add 0 1 0
+  else
+    echo "$words ... FAILED"
+    add 1 0 1
+  fi
+}
+
+lists_six_persons() {
+  "$@" < examples/six_persons.klf > "$work/printed" && diff crates/chains/stdout "$work/printed"
+}
+
+refuses_nothing_at_all() {
+  ! "$@" < /dev/null > "$work/printed" 2>&1 && grep '^refused 1 at 0' "$work/printed"
+}
+
+# Every example lists the six-person file as the program does, and tells the refusal of an empty file.
+example() {
+  local words=$1
+  shift
+  holds "$words: the six-person file" lists_six_persons "$@"
+  holds "$words: an empty file" refuses_nothing_at_all "$@"
+}
+
+# The program to make, the compiler and its options, the source. A warning is a failure.
+compile() {
+  local program=$work/$1
+  shift
+  "$@" -pedantic -Wall -Wextra -Werror -O2 -I include -x none target/staticlib/liboutside.a -o "$program"
+}
+
+calls_every_function() {
+  compile calls "$@" && "$work/calls" < examples/six_persons.klf
+}
+
+cargo_tests tests
+
+cargo_tests bindings/rust
+example "Rust example" cargo run --quiet --release --offline --manifest-path bindings/rust/Cargo.toml --example ask
+
+holds "shared library" bash bindings/python/build.sh
+python_tests bindings/python/test_kin.py
+example "Python example" python3 bindings/python/ask.py
+
+holds "every function from C" calls_every_function cc -std=c99 bindings/c/test_kin.c
+holds "every function from C++" calls_every_function c++ -std=c++11 -x c++ bindings/c/test_kin.c
+holds "C example, built" compile ask cc -std=c99 examples/ask.c
+example "C example" "$work/ask"
 
 echo "$passed passed, $failed failed"
 [ "$failed" -eq 0 ]

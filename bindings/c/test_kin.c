@@ -1,0 +1,118 @@
+/* Calls every function that include/kin.h declares on the six-person file, which comes on standard input. It is C and C++. */
+#include <stdio.h>
+#include <string.h>
+
+#include "kin.h"
+
+/* The customer's question Q: from 0 to 5, 4 hops, all classes, days of events, all days. */
+#define Q 0, 5, 4, 15, 1, 1, 3652059
+
+enum { UNTOUCHED = 77777 };
+
+static const uint32_t FIRST[KIN_RECORD_CELLS] = {3, 0, 1, 3, 5};
+static const uint32_t SECOND[KIN_RECORD_CELLS] = {4, 0, 2, 1, 3, 5};
+static const uint32_t THIRD[KIN_RECORD_CELLS] = {3, 0, 2, 3, 5};
+
+static uint8_t file[KIN_LONGEST_FILE + 1];
+static size_t length;
+static int faults = 0;
+
+static void expect(const char *words, uint64_t told, uint64_t right) {
+    if (told != right) {
+        printf("%s: told %llx, right is %llx\n", words, (unsigned long long)told, (unsigned long long)right);
+        faults++;
+    }
+}
+
+static void expect_refused(const char *words, uint64_t answer, uint32_t number, uint32_t place) {
+    expect(words, (uint64_t)kin_refused(answer), 1);
+    expect(words, kin_refusal_number(answer), number);
+    expect(words, kin_refusal_place(answer), place);
+}
+
+static void expect_listed(const char *words, uint64_t answer, size_t count, int ended) {
+    expect(words, (uint64_t)kin_refused(answer), 0);
+    expect(words, kin_count(answer), count);
+    expect(words, (uint64_t)kin_ended(answer), (uint64_t)ended);
+}
+
+static void expect_record(const char *words, const uint32_t *cells, const uint32_t *record) {
+    expect(words, (uint64_t)(memcmp(cells, record, sizeof FIRST) != 0), 0);
+}
+
+static void set_untouched(uint32_t *cells, size_t count) {
+    for (size_t cell = 0; cell < count; cell++) cells[cell] = UNTOUCHED;
+}
+
+static void expect_untouched(const char *words, const uint32_t *cells, size_t count) {
+    for (size_t cell = 0; cell < count; cell++) expect(words, cells[cell], UNTOUCHED);
+}
+
+static void test_check(void) {
+    uint64_t answer = kin_check(file, length);
+    expect("check", (uint64_t)kin_refused(answer), 0);
+    expect("persons", kin_persons(answer), 6);
+    expect("links", kin_links(answer), 10);
+    expect("feeds", kin_feeds(answer), 2);
+    expect_refused("187 bytes", kin_check(file, 187), 3, 0);
+    expect_refused("no bytes", kin_check(NULL, 0), 1, 0);
+    file[38] = 3;
+    expect_refused("feed 1 means 3", kin_check(file, length), 5, 1);
+    file[38] = 2;
+}
+
+static void test_row_and_fewest(void) {
+    expect("row of 1", kin_row(file, length, 1), 24);
+    expect("row of 6", kin_row(file, length, 6), 0);
+    expect("fewest from 0", kin_fewest(file, length, Q, 0), 3);
+    expect("fewest in one hop", kin_fewest(file, length, 0, 5, 1, 15, 1, 1, 3652059, 0), 2);
+    expect_refused("fewest from 6", kin_fewest(file, length, Q, 6), 10, 2);
+}
+
+static void test_portion(void) {
+    uint32_t output[29], next[20];
+    set_untouched(output, 29);
+    set_untouched(next, 20);
+    expect_listed("room 2", kin_portion(file, length, Q, 0, NULL, 0, output, 29), 2, 0);
+    expect_record("first", output, FIRST);
+    expect_record("second", output + KIN_RECORD_CELLS, SECOND);
+    expect_untouched("behind the portion", output + 20, 9);
+    expect_refused("bookmark of nine cells", kin_portion(file, length, Q, 1, output, 9, next, 20), 17, 0);
+    expect_untouched("refused", next, 20);
+    expect_listed("after the second", kin_portion(file, length, Q, 1, SECOND, KIN_RECORD_CELLS, next, 20), 1, 1);
+    expect_record("third", next, THIRD);
+}
+
+static void test_held(void) {
+    uint32_t held[KIN_HELD_CELLS] = {Q, 0}, output[30];
+    set_untouched(output, 30);
+    expect("17 cells", kin_held(held, 17, file, length, output, 30), (uint64_t)1 << 63);
+    expect_untouched("17 cells", output, 30);
+    expect_listed("held", kin_held(held, KIN_HELD_CELLS, file, length, output, 30), 3, 1);
+    expect("started", held[7], 1);
+    expect_record("kept", held + 8, THIRD);
+    expect_listed("held, over", kin_held(held, KIN_HELD_CELLS, file, length, output, 30), 0, 1);
+}
+
+static void test_join(void) {
+    uint32_t working[50], output[30];
+    set_untouched(working, 50);
+    set_untouched(output, 30);
+    expect_refused("49 working cells", kin_join(file, length, Q, working, 49, output, 30), 18, 0);
+    expect_untouched("49 working cells", working, 50);
+    expect_untouched("49 working cells", output, 30);
+    expect_listed("join", kin_join(file, length, Q, working, 50, output, 30), 3, 1);
+    expect_record("longest last", output + 20, SECOND);
+    expect("first half chain", working[0], 0);
+    expect("first half chain", working[1], 5);
+}
+
+int main(void) {
+    length = fread(file, 1, sizeof file, stdin);
+    test_check();
+    test_row_and_fewest();
+    test_portion();
+    test_held();
+    test_join();
+    return faults != 0;
+}

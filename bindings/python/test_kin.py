@@ -1,0 +1,265 @@
+"""Tests of the binding: the customer's cases on the six-person file, refusals, portions, and a lister of its own on random files."""
+
+import itertools
+import os
+import pickle
+import random
+import struct
+import subprocess
+import sys
+import unittest
+from pathlib import Path
+
+import kin
+
+ROOT = Path(__file__).resolve().parents[2]
+SIX_PERSONS = (ROOT / "examples" / "six_persons.klf").read_bytes()
+
+Q = kin.Question(0, 5, 4)
+FIRST, SECOND, THIRD = (0, 1, 3, 5), (0, 2, 1, 3, 5), (0, 2, 3, 5)
+
+
+def listed(question, file=SIX_PERSONS, **how):
+    return list(kin.chains(file, question, **how))
+
+
+def link_file(rows, feeds):
+    """A link file, made of each person's links as (target, day, feed, kind) and of feeds as (archive, meaning)."""
+    row_table = 32 + 4 * len(feeds)
+    link_table = row_table + 4 * (len(rows) + 1)
+    links = list(itertools.chain(*rows))
+    length = link_table + 12 * len(links)
+    parts = [struct.pack("<4s7I", b"KLF1", len(rows), len(links), len(feeds), 32, row_table, link_table, length)]
+    parts += [struct.pack("<HBx", *feed) for feed in feeds]
+    parts += [struct.pack("<I", sum(map(len, rows[:person]))) for person in range(len(rows) + 1)]
+    parts += [struct.pack("<IIHBx", *link) for link in links]
+    return b"".join(parts)
+
+
+def everybody_linked(persons):
+    """Rows in which everybody is linked to everybody, undated."""
+    return [[(target, 0, 0, 1) for target in range(persons) if target != person] for person in range(persons)]
+
+
+def random_rows(chance, persons, feeds):
+    """Rows with most of all links, of any kind, half of them undated and the others within ten days."""
+
+    def link(target):
+        day = chance.choice([0, chance.randint(1, 10)])
+        return target, day, chance.randrange(feeds), chance.choice([1, 2, 3, 4, 5, 16, 31])
+
+    everybody = range(persons)
+    return [[link(target) for target in everybody if target != person and chance.random() < 0.8] for person in everybody]
+
+
+def random_question(chance, persons):
+    ends = chance.sample(range(persons), 2)
+    classes = chance.choice([15, chance.randint(1, 15)])
+    return kin.Question(*ends, chance.randint(1, 8), classes, chance.randint(1, 2), chance.randint(1, 3), chance.randint(6, 10))
+
+
+def admitted(link, feeds, question):
+    _, day, feed, kind = link
+    class_of_kind = {1: 1, 2: 1, 4: 1, 3: 2, 5: 4, 16: 8, 31: 8}[kind]
+    if not class_of_kind & question.classes:
+        return False
+    return day == 0 or feeds[feed][1] == question.meaning and question.first_day <= day <= question.last_day
+
+
+def chains_by_trying(rows, feeds, question):
+    """The chains by their definition: every sequence of different persons is tried, and kept if each hop is admitted."""
+    hops = {(owner, link[0]) for owner, row in enumerate(rows) for link in row if admitted(link, feeds, question)}
+    ends = (question.from_person, question.to_person)
+    others = [person for person in range(len(rows)) if person not in ends]
+    middles = itertools.chain(*(itertools.permutations(others, passed) for passed in range(question.hops)))
+    tried = [(ends[0], *middle, ends[1]) for middle in middles]
+    return sorted(chain for chain in tried if hops.issuperset(zip(chain, chain[1:])))
+
+
+class Case(unittest.TestCase):
+    def assert_refused(self, number, place, asked):
+        with self.assertRaises(kin.Refused) as caught:
+            asked()
+        self.assertEqual((caught.exception.number, caught.exception.place), (number, place))
+
+
+class SixPersons(Case):
+    def test_listings(self):
+        for question, right in (
+            (Q, [FIRST, SECOND, THIRD]),
+            (Q._replace(hops=3), [FIRST, THIRD]),
+            (Q._replace(hops=2), []),
+            (Q._replace(classes=1), [FIRST]),
+            (Q._replace(meaning=2), []),
+            (Q._replace(first_day=700_001), [SECOND, THIRD]),
+            (Q._replace(last_day=700_400), [FIRST, SECOND, THIRD]),
+            (Q._replace(last_day=700_399), []),
+            (Q._replace(hops=8), [FIRST, SECOND, THIRD]),
+        ):
+            with self.subTest(question):
+                self.assertEqual(listed(question), right)
+
+    def test_portions(self):
+        self.assertEqual(kin.portion(SIX_PERSONS, Q, 2), ([FIRST, SECOND], False))
+        self.assertEqual(kin.portion(SIX_PERSONS, Q, 2, SECOND), ([THIRD], True))
+        self.assertEqual(kin.portion(SIX_PERSONS, Q, 3), ([FIRST, SECOND, THIRD], True))
+        self.assertEqual(kin.portion(SIX_PERSONS, Q, 1, THIRD), ([], True))
+
+    def test_join(self):
+        halves = [(5,), (3, 5), (4, 5), (1, 3, 5), (2, 3, 5)]
+        self.assertEqual(kin.join(SIX_PERSONS, Q, 3, 5), (([FIRST, THIRD, SECOND], True), halves))
+        self.assertEqual(kin.join(SIX_PERSONS, Q, 2), (([FIRST, THIRD], False), halves))
+        self.assert_refused(18, 0, lambda: kin.join(SIX_PERSONS, Q, 3, 4))
+
+    def test_check(self):
+        self.assertEqual(kin.check(SIX_PERSONS), (6, 10, 2))
+        self.assertEqual(kin.check(bytearray(SIX_PERSONS)), kin.check(memoryview(SIX_PERSONS)))
+
+    def test_fewest_hops(self):
+        fewest = [kin.fewest_hops(SIX_PERSONS, Q, person) for person in range(6)]
+        self.assertEqual(fewest, [3, 2, 2, 1, 1, 0])
+        self.assertIsNone(kin.fewest_hops(SIX_PERSONS, Q._replace(hops=1), 0))
+        self.assert_refused(10, 2, lambda: kin.fewest_hops(SIX_PERSONS, Q, 6))
+
+    def test_row_views(self):
+        rows = (0, 2, 4, 6, 8, 9, 10)
+        for person in range(6):
+            right = SIX_PERSONS[68 + 12 * rows[person]:68 + 12 * rows[person + 1]]
+            self.assertEqual(kin.row_view(SIX_PERSONS, person), right)
+        self.assertEqual(kin.links_in(kin.row_view(SIX_PERSONS, 1)), [(3, 700_100, 0, 1), (4, 700_200, 1, 5)])
+        self.assertEqual(kin.links_in(kin.row_view(SIX_PERSONS, 6)), [])
+        self.assertEqual(len(kin.row_view(SIX_PERSONS[:187], 0)), 0)
+
+    def test_a_row_view_is_the_very_part_of_the_file(self):
+        file = bytearray(SIX_PERSONS)
+        view = kin.row_view(file, 4)
+        file[164] = 0
+        self.assertEqual(kin.links_in(view)[0].target, 0)
+
+
+class Refusals(Case):
+    def test_questions(self):
+        for question, number, place in (
+            (Q._replace(from_person=6), 10, 0),
+            (Q._replace(to_person=6), 10, 1),
+            (Q._replace(to_person=0), 11, 0),
+            (Q._replace(hops=0), 12, 0),
+            (Q._replace(hops=9), 12, 0),
+            (Q._replace(classes=0), 13, 0),
+            (Q._replace(classes=16), 13, 0),
+            (Q._replace(meaning=3), 14, 0),
+            (Q._replace(first_day=0), 15, 0),
+            (Q._replace(last_day=kin.LAST_DAY + 1), 15, 0),
+        ):
+            with self.subTest(question):
+                self.assert_refused(number, place, lambda: listed(question))
+
+    def test_files(self):
+        wrong_meaning = SIX_PERSONS[:38] + b"\3" + SIX_PERSONS[39:]
+        for file, number, place in ((b"", 1, 0), (SIX_PERSONS[:187], 3, 0), (wrong_meaning, 5, 1)):
+            self.assert_refused(number, place, lambda: kin.check(file))
+            self.assert_refused(number, place, lambda: listed(Q, file))
+
+    def test_bookmarks(self):
+        for bookmark in ((0, 1, 4, 5), (), (0,), tuple(range(9)), tuple(range(10)), tuple(range(99))):
+            with self.subTest(bookmark):
+                self.assert_refused(17, 0, lambda: kin.portion(SIX_PERSONS, Q, 2, bookmark))
+                self.assert_refused(17, 0, lambda: listed(Q, after=bookmark))
+        self.assert_refused(17, 0, lambda: kin.portion(SIX_PERSONS, Q._replace(hops=3), 2, SECOND))
+
+    def test_no_room(self):
+        self.assert_refused(16, 0, lambda: kin.portion(SIX_PERSONS, Q, 0))
+        self.assert_refused(16, 0, lambda: listed(Q, room=0))
+
+    def test_meanings_are_the_document_s(self):
+        cells = [line.split("|") for line in (ROOT / "docs" / "REFUSALS.md").read_text().splitlines()]
+        lines = {int(line[1]): line[2].strip() for line in cells if len(line) > 2 and line[1].strip().isdigit()}
+        self.assertEqual(list(lines), list(range(1, 20)))
+        for number, meaning in lines.items():
+            refused = kin.Refused(number, 7)
+            self.assertEqual(refused.meaning, meaning)
+            self.assertEqual(str(refused), f"refused {number} at 7: {meaning}")
+        self.assertEqual(len(kin.MEANINGS), len(lines))
+
+    def test_numbers_without_a_line(self):
+        for number in (0, 20):
+            self.assertEqual(str(kin.Refused(number, 0)), f"refused {number} at 0")
+
+    def test_a_refusal_survives_being_put_away(self):
+        again = pickle.loads(pickle.dumps(kin.Refused(5, 1)))
+        self.assertEqual((again.number, again.place), (5, 1))
+
+
+class Portions(Case):
+    def test_every_room_gives_the_same_listing(self):
+        rows, feeds = everybody_linked(6), [(1, 1)]
+        right = chains_by_trying(rows, feeds, Q)
+        self.assertEqual(len(right), 1 + 4 + 12 + 24)
+        for room in range(1, len(right) + 2):
+            self.assertEqual(listed(Q, link_file(rows, feeds), room=room), right)
+
+    def test_a_listing_goes_on_after_each_of_its_chains(self):
+        file = link_file(everybody_linked(5), [(1, 1)])
+        question = kin.Question(0, 4, 8)
+        right = listed(question, file)
+        for place, chain in enumerate(right):
+            self.assertEqual(listed(question, file, room=2, after=chain), right[place + 1:])
+
+    def test_held_listing(self):
+        held = kin.HeldListing(Q)
+        self.assertEqual(held.cells, [*Q, 0, *[0] * 10])
+        self.assertEqual(held.move_on(SIX_PERSONS, 2), ([FIRST, SECOND], False))
+        self.assertEqual(held.cells, [*Q, 1, 4, *SECOND, 0, 0, 0, 0])
+        again = kin.HeldListing.from_cells(held.cells)
+        self.assertEqual(again.move_on(SIX_PERSONS), ([THIRD], True))
+        after = again.cells
+        self.assertEqual(again.move_on(SIX_PERSONS), ([], True))
+        self.assert_refused(3, 0, lambda: again.move_on(SIX_PERSONS[:-1]))
+        self.assertEqual(again.cells, after)
+
+    def test_a_held_listing_of_another_size(self):
+        for size in (0, 17, 19):
+            self.assertRaises(ValueError, kin.HeldListing.from_cells, [0] * size)
+
+
+class OtherArguments(Case):
+    def test_numbers_beyond_32_bits(self):
+        for person in (-1, 1 << 32, (1 << 32) + 5):
+            self.assertRaises(ValueError, listed, Q._replace(to_person=person))
+            self.assertRaises(ValueError, kin.portion, SIX_PERSONS, Q, 1, (0, person))
+            self.assertRaises(ValueError, kin.row_view, SIX_PERSONS, person)
+
+    def test_what_is_no_file_and_no_number(self):
+        for file in (188, "KLF1", None):
+            self.assertRaises(TypeError, kin.check, file)
+        self.assertRaises(TypeError, kin.fewest_hops, SIX_PERSONS, Q, 1.5)
+
+    def test_a_library_that_is_not_there(self):
+        elsewhere = {**os.environ, "KIN_LIBRARY": "/nowhere/libkin.so"}
+        command = [sys.executable, "-c", "import kin"]
+        tried = subprocess.run(command, cwd=Path(__file__).parent, env=elsewhere, capture_output=True, text=True)
+        self.assertIn("ImportError: /nowhere/libkin.so cannot be loaded: run bindings/python/build.sh", tried.stderr)
+
+
+class RandomFiles(Case):
+    SEED = 20261115
+
+    def test_listings_against_trying_every_sequence(self):
+        chance = random.Random(self.SEED)
+        chains_seen = 0
+        for run in range(400):
+            persons, feeds = chance.randint(2, 6), [(3, 1), (8, 2)]
+            rows = random_rows(chance, persons, len(feeds))
+            question = random_question(chance, persons)
+            right = chains_by_trying(rows, feeds, question)
+            chains_seen += len(right)
+            with self.subTest(seed=self.SEED, run=run, question=question):
+                file = link_file(rows, feeds)
+                self.assertEqual(listed(question, file, room=chance.randint(1, 5)), right)
+                joined, _ = kin.join(file, question)
+                self.assertEqual(joined.chains, sorted(right, key=len))
+        self.assertGreater(chains_seen, 400)
+
+
+if __name__ == "__main__":
+    unittest.main()

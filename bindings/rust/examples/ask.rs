@@ -1,0 +1,29 @@
+//! Prints every chain from person 0 to person 5 in at most four hops in the link file on standard input, as the program
+//! `chains` does.
+
+use std::error::Error;
+use std::io::{stdin, Read};
+use std::process::ExitCode;
+
+fn ask() -> Result<(), Box<dyn Error>> {
+    let mut file = Vec::new();
+    stdin().read_to_end(&mut file)?;
+
+    let mut count = 0;
+    for chain in kin::chains(&file, kin::Question::between(0, 5, 4)) {
+        println!("{}", chain?);
+        count += 1;
+    }
+    println!("end {count}");
+    Ok(())
+}
+
+fn main() -> ExitCode {
+    match ask() {
+        Ok(()) => ExitCode::SUCCESS,
+        Err(why) => {
+            println!("{why}");
+            ExitCode::FAILURE
+        }
+    }
+}

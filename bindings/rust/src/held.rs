@@ -1,0 +1,95 @@
+//! The held listing: a place in a listing, kept between calls.
+
+use crate::answer::listed;
+use crate::{outside, Answer, Chain, Question, RECORD_CELLS};
+
+/// The cells of a held listing: the seven numbers of its question, started, the record of the last chain.
+pub const HELD_CELLS: usize = 18;
+
+const STARTED: usize = 7;
+const RECORD: usize = HELD_CELLS - RECORD_CELLS;
+
+/// A question and how far its listing has come. Each call moves it on by a portion.
+///
+/// ```
+/// use kin::{Answer, HeldListing, Question};
+///
+/// let file = std::fs::read("../../examples/six_persons.klf")?;
+/// let mut held = HeldListing::new(Question::between(0, 5, 4));
+/// let mut output = [0; 20];
+/// assert_eq!(held.move_on(&file, &mut output), Answer::Listed { count: 2, ended: false });
+/// assert_eq!(held.last().unwrap().persons(), [0, 2, 1, 3, 5]);
+///
+/// // Put away and taken up again.
+/// let mut held = HeldListing::from_cells(*held.cells());
+/// assert_eq!(held.move_on(&file, &mut output), Answer::Listed { count: 1, ended: true });
+/// # Ok::<(), std::io::Error>(())
+/// ```
+#[derive(Clone, Copy, Debug, PartialEq, Eq, Hash)]
+pub struct HeldListing {
+    cells: [u32; HELD_CELLS],
+}
+
+impl HeldListing {
+    /// A listing not yet started.
+    pub fn new(question: Question) -> HeldListing {
+        let mut cells = [0; HELD_CELLS];
+        let numbers = [
+            question.from,
+            question.to,
+            question.hops,
+            question.classes,
+            question.meaning,
+            question.first_day,
+            question.last_day,
+        ];
+        cells[..STARTED].copy_from_slice(&numbers);
+        HeldListing { cells }
+    }
+
+    /// A listing that has come as far as this chain.
+    pub fn after(question: Question, chain: &Chain) -> HeldListing {
+        let mut held = HeldListing::new(question);
+        held.cells[STARTED] = 1;
+        held.cells[RECORD..].copy_from_slice(chain.record());
+        held
+    }
+
+    /// Takes up a held listing from its cells.
+    pub fn from_cells(cells: [u32; HELD_CELLS]) -> HeldListing {
+        HeldListing { cells }
+    }
+
+    /// The cells, to be put away.
+    pub fn cells(&self) -> &[u32; HELD_CELLS] {
+        &self.cells
+    }
+
+    /// The question, which no call changes.
+    pub fn question(&self) -> Question {
+        let [from, to, hops, classes, meaning, first_day, last_day, ..] = self.cells;
+        Question {
+            from,
+            to,
+            hops,
+            classes,
+            meaning,
+            first_day,
+            last_day,
+        }
+    }
+
+    /// The last chain handed over; nothing if the listing isn't started.
+    pub fn last(&self) -> Option<Chain> {
+        if self.cells[STARTED] == 0 {
+            return None;
+        }
+        Chain::from_record(&self.cells[RECORD..])
+    }
+
+    /// Writes the next chains to the output and keeps the last of them. Refusals and answer are those of
+    /// [`portion`](crate::portion); a refusal, and a portion without chains, changes nothing here.
+    pub fn move_on(&mut self, file: &[u8], output: &mut [u32]) -> Answer {
+        listed(outside::held(&mut self.cells, file, output))
+    }
+}

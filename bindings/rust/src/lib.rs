@@ -1,0 +1,50 @@
+//! Every chain of kinship between two persons in a file of links: safe functions over the proved library.
+//!
+//! A link file is lent as bytes and never changed. Any bytes, any [`Question`] and any bookmark get their answer or are
+//! [`Refused`] with a number and a place; nothing here panics, and a refusal leaves every lent cell as it came.
+//!
+//! ```
+//! let file = std::fs::read("../../examples/six_persons.klf")?;
+//! let question = kin::Question::between(0, 5, 4);
+//!
+//! let counts = kin::check(&file)?;
+//! assert_eq!((counts.persons, counts.links, counts.feeds), (6, 10, 2));
+//!
+//! let mut lines = Vec::new();
+//! for chain in kin::chains(&file, question) {
+//!     lines.push(chain?.to_string());
+//! }
+//! assert_eq!(lines, ["3: 0 1 3 5", "4: 0 2 1 3 5", "3: 0 2 3 5"]);
+//! # Ok::<(), Box<dyn std::error::Error>>(())
+//! ```
+//!
+//! | To | call |
+//! |---|---|
+//! | check a file | [`check`] |
+//! | see a person's links | [`row_view`], [`links_in`] |
+//! | know how far a person is from To | [`fewest_hops`] |
+//! | go through all chains | [`chains`] |
+//! | ask for one portion of them | [`portion`], then [`chains_in`] |
+//! | keep a place in a listing | [`HeldListing`] |
+//! | have the shortest chains first | [`join`], then [`chains_in`] |
+
+#![deny(missing_docs)]
+
+mod answer;
+mod chain;
+mod chains;
+mod held;
+mod links;
+mod operations;
+mod outside;
+mod question;
+mod refused;
+
+pub use answer::{Answer, Counts};
+pub use chain::{chains_in, Chain, RECORD_CELLS};
+pub use chains::{chains, Chains};
+pub use held::{HeldListing, HELD_CELLS};
+pub use links::{links_in, row_view, Link};
+pub use operations::{check, fewest_hops, join, portion, Start};
+pub use question::{Question, LAST_DAY};
+pub use refused::Refused;

@@ -1,0 +1,53 @@
+//! What is asked.
+
+/// 31 December 9999, the last day a link or a question can name. Day 1 is 1 January of year 1.
+pub const LAST_DAY: u32 = 3_652_059;
+
+/// What is asked of a file: between whom, in how many hops, over which links.
+///
+/// A question may hold any numbers; the library refuses those that make no sense (refusals 10 to 15).
+///
+/// ```
+/// use kin::Question;
+///
+/// // Blood and marriage only, by the day of registration, up to the end of the year 1800.
+/// let question = Question {
+///     classes: 1 + 2,
+///     meaning: 2,
+///     last_day: 657_436,
+///     ..Question::between(0, 5, 4)
+/// };
+/// assert_eq!(question.first_day, 1);
+/// ```
+#[derive(Clone, Copy, Debug, PartialEq, Eq, Hash)]
+pub struct Question {
+    /// The first person of every chain.
+    pub from: u32,
+    /// The last person of every chain.
+    pub to: u32,
+    /// The most hops of a chain, 1 to 8.
+    pub hops: u32,
+    /// The classes of link that count, added up: 1 parent, child or sibling, 2 spouse, 4 same person, 8 named together.
+    pub classes: u32,
+    /// What a day has to mean for a dated link to count: 1 the day of the event, 2 the day of registration.
+    pub meaning: u32,
+    /// The first day that counts.
+    pub first_day: u32,
+    /// The last day that counts.
+    pub last_day: u32,
+}
+
+impl Question {
+    /// Asks for chains over links of every class, undated or with any day of an event.
+    pub fn between(from: u32, to: u32, hops: u32) -> Question {
+        Question {
+            from,
+            to,
+            hops,
+            classes: 15,
+            meaning: 1,
+            first_day: 1,
+            last_day: LAST_DAY,
+        }
+    }
+}

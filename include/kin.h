@@ -1,0 +1,110 @@
+/*
+ * The library `outside` (target/staticlib/liboutside.a) for C and C++: every chain of kinship between two persons of a link file.
+ *
+ * Every function is total: any bytes, any numbers get an answer or a refusal, and no caller has to check anything beforehand.
+ *
+ * Slices. A slice is a pointer and its length in elements. Cells are 32-bit numbers aligned to 4 bytes; a file is bytes at any
+ * address. An empty slice may come with any pointer, NULL too. Slices lent to one call do not overlap. Nothing is kept after a call.
+ *
+ * Question. Its seven numbers are seven arguments, always in this order: from, to (persons, counted from 0), hops (1 to 8), classes
+ * (the sum of those that count: 1 parent, child or sibling, 2 spouse, 4 same person, 8 named together), meaning (1 the day of the
+ * event, 2 the day of registration), first and last day (1 to 3652059).
+ *
+ * Record. A chain is KIN_RECORD_CELLS cells: its hops, then hops + 1 persons, then zeros. An output has room for its length divided
+ * by ten, rounded down.
+ *
+ * Started. 0 is a fresh start, any other number is started. On a fresh start the bookmark isn't looked at, of whatever length.
+ *
+ * Held listing. KIN_HELD_CELLS lent cells: the seven numbers of the question, started, the record of the last chain handed over.
+ * One that moved on has 1 in its started cell; otherwise that cell stays as it was.
+ *
+ * Refusal. A refusal is 2^63 + number * 2^32 + place; docs/REFUSALS.md says what each number means. After a refusal every lent cell
+ * is as it came.
+ */
+#ifndef KIN_H
+#define KIN_H
+
+#include <stddef.h>
+#include <stdint.h>
+
+#ifdef __cplusplus
+extern "C" {
+#endif
+
+enum {
+    KIN_RECORD_CELLS = 10,
+    KIN_HELD_CELLS = 18,
+    /* The most bytes a link file has; a reader that takes one byte more sees that a file is too long. */
+    KIN_LONGEST_FILE = 53348
+};
+
+/*
+ * Checks a file. Answers persons + links * 2^16 + feeds * 2^32, to be taken apart by kin_persons, kin_links and kin_feeds.
+ * Refusals 1 to 9. Changes no lent cell.
+ */
+uint64_t kin_check(const uint8_t *file, size_t file_length);
+
+/*
+ * Answers the length in bytes of the row view, the part of the file that holds a person's links, 12 bytes each. It is 0 for a person
+ * without links, for a person who isn't in the file and for a refused file; no refusal number comes with it, kin_check tells which.
+ * Changes no lent cell.
+ */
+uint64_t kin_row(const uint8_t *file, size_t file_length, uint32_t person);
+
+/*
+ * Answers the fewest hops from a person to the question's To over admitted links, or hops + 1 if there is no way in at most hops.
+ * Refusals 1 to 15; 10 with place 2 is the person. Changes no lent cell.
+ */
+uint64_t kin_fewest(const uint8_t *file, size_t file_length,
+                    uint32_t from, uint32_t to, uint32_t hops, uint32_t classes, uint32_t meaning, uint32_t first, uint32_t last,
+                    uint32_t person);
+
+/*
+ * Lists the first chains after the bookmark, or from the beginning if started is 0, in dictionary order, as many as the output has
+ * room for. Answers count + ended * 2^62, to be taken apart by kin_count and kin_ended: how many chains, and whether none follows.
+ * Refusals 1 to 17. Changes the first 10 * count cells of the output and no other lent cell; on a refusal none.
+ */
+uint64_t kin_portion(const uint8_t *file, size_t file_length,
+                     uint32_t from, uint32_t to, uint32_t hops, uint32_t classes, uint32_t meaning, uint32_t first, uint32_t last,
+                     uint32_t started, const uint32_t *bookmark, size_t bookmark_length,
+                     uint32_t *output, size_t output_length);
+
+/*
+ * Moves a held listing on by a portion. Answers and refuses as kin_portion does; if it isn't lent KIN_HELD_CELLS cells it answers
+ * 2^63, a refusal of number 0, before anything else is looked at. Changes the first 10 * count cells of the output and, with chains
+ * written, the started cell (to 1) and the record (to the last chain) of the held listing; with none written, and on a refusal, no
+ * lent cell.
+ */
+uint64_t kin_held(uint32_t *held, size_t held_length,
+                  const uint8_t *file, size_t file_length,
+                  uint32_t *output, size_t output_length);
+
+/*
+ * Lists by joining half chains, shorter chains first, in dictionary order among those of the same hops. Answers as kin_portion does.
+ * Refusals 1 to 16 and 18. Changes the first 10 * count cells of the output and as many working cells as the records of all half
+ * chains take, also if there is no chain; on a refusal no lent cell.
+ */
+uint64_t kin_join(const uint8_t *file, size_t file_length,
+                  uint32_t from, uint32_t to, uint32_t hops, uint32_t classes, uint32_t meaning, uint32_t first, uint32_t last,
+                  uint32_t *working, size_t working_length,
+                  uint32_t *output, size_t output_length);
+
+/* Any answer: whether it is a refusal, and if so its number and its place. */
+static inline int kin_refused(uint64_t answer) { return (int)(answer >> 63); }
+static inline uint32_t kin_refusal_number(uint64_t answer) { return (uint32_t)(answer >> 32) & 0x7fffffffu; }
+static inline uint32_t kin_refusal_place(uint64_t answer) { return (uint32_t)answer; }
+
+/* The answer of kin_check, if it is no refusal. */
+static inline uint32_t kin_persons(uint64_t answer) { return (uint32_t)answer & 0xffffu; }
+static inline uint32_t kin_links(uint64_t answer) { return (uint32_t)answer >> 16; }
+static inline uint32_t kin_feeds(uint64_t answer) { return (uint32_t)(answer >> 32); }
+
+/* The answer of kin_portion, kin_held or kin_join, if it is no refusal. */
+static inline size_t kin_count(uint64_t answer) { return (size_t)(answer & 0x3fffffffffffffffu); }
+static inline int kin_ended(uint64_t answer) { return (int)(answer >> 62 & 1); }
+
+#ifdef __cplusplus
+}
+#endif
+
+#endif
