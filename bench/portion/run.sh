@@ -6,5 +6,5 @@ cd "$(dirname "${BASH_SOURCE[0]}")/../.."
 
 archive="${1:-target/staticlib/liboutside.a}"
 mkdir -p target/bench
-"${CXX:-g++}" -O3 -std=c++17 -Wall -Wextra -pthread -o target/bench/portion bench/portion/portion.cpp bench/search/baseline.cpp "$archive"
+"${CXX:-g++}" -O3 -std=c++17 -Wall -Wextra -pthread -o target/bench/portion bench/portion/portion.cpp "$archive"
 target/bench/portion
