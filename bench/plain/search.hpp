@@ -39,8 +39,11 @@ template <Pruned pruned, class Sink> struct Search {
     void go_through(size_t person, size_t len, size_t left, bool tight) {
         for (size_t i = rows[person], end = rows[person + 1]; i < end && !sink.more; ++i) {
             uint32_t v = targets[i];
-            if (tight && v < bookmark[len + 1]) continue;
-            bool on = tight && v == bookmark[len + 1];
+            bool on = false;
+            if (tight) {
+                if (v < bookmark[len + 1]) continue;
+                on = v == bookmark[len + 1];
+            }
             if (v == to) {
                 if (!on) sink.hand_over(chain, len, v, to, len);
                 continue;
@@ -56,19 +59,23 @@ template <Pruned pruned, class Sink> struct Search {
             go_through(v, len + 1, left - 1, on);
             marks[v] = false;
             chain[len + 1] = 0;
-            if (pruned == Pruned::by_barriers) settle(v, left, !on && !sink.more && sink.count == count0, height0);
+            if (pruned != Pruned::by_barriers) continue;
+            if (!on && !sink.more && sink.count == count0)
+                raise_barrier(v, left);
+            else
+                put_back(height0);
         }
     }
 
     bool too_far(uint32_t v, size_t left) const { return pruned == Pruned::by_nothing ? left == 0 : left < barriers[v]; }
 
-    void settle(uint32_t v, size_t left, bool nothing_found, size_t height0) {
-        if (nothing_found) {
-            if (height == sizeof trail / sizeof trail[0]) return;
-            trail[height++] = uint16_t(v * 16 + barriers[v]);
-            barriers[v] = uint8_t(left);
-            return;
-        }
+    void raise_barrier(uint32_t v, size_t left) {
+        if (height == sizeof trail / sizeof trail[0]) return;
+        trail[height++] = uint16_t(v * 16 + barriers[v]);
+        barriers[v] = uint8_t(left);
+    }
+
+    void put_back(size_t height0) {
         while (height > height0) {
             --height;
             barriers[trail[height] >> 4] = trail[height] & 15;
