@@ -27,7 +27,7 @@ template <Pruned pruned, class Sink> struct Search {
     bool marks[PERSONS] = {};
     uint8_t barriers[PERSONS];
     uint16_t trail[8 * PERSONS];
-    uint32_t chain[10] = {};  // as a record: the persons from cell 1 on, then zeros
+    uint32_t chain[16] = {};  // as a record: the persons from cell 1 on, then zeros; longer only so that no compiler warns
 
     Search(const Asked &a, const Sink &s) : rows(a.rows), targets(a.targets), bookmark(a.bookmark), to(a.to), sink(s) {
         if (pruned != Pruned::by_nothing) memcpy(barriers, a.fewest, sizeof barriers);

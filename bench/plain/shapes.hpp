@@ -1,6 +1,7 @@
 // Shapes of graphs to measure on, and the link files that hold them.
 #pragma once
 #include "file.h"
+#include <algorithm>
 #include <map>
 #include <random>
 #include <vector>
@@ -84,6 +85,70 @@ inline Links many_into_dead(int many) {
     for (int p = region; p < to; ++p) link(l, p, 1);
     return l;
 }
+
+// Families over generations: every tie is linked both ways, couples, parents and children, siblings and half siblings. Who has been
+// married once marries again as often as not, up to three times, and nobody marries a sibling. Children are born until the next
+// one would pass a limit of the file.
+class Families {
+    std::mt19937 r;
+    std::vector<std::vector<int>> children;
+
+    int below(size_t n) { return int(r() % n); }
+
+    void tie(int p, int q, Kind one, Kind other) {
+        links[p].emplace(q, one);
+        links[q].emplace(p, other);
+    }
+
+    int person() {
+        links.emplace_back();
+        children.emplace_back();
+        return int(links.size()) - 1;
+    }
+
+    // False where the child would pass a limit: it brings two links with each parent and with each sibling.
+    bool born(int mother, int father) {
+        std::vector<int> siblings = children[mother];
+        for (int half : children[father])
+            if (!links[mother].count(half)) siblings.push_back(half);
+        if (links.size() == PERSONS || links_in(links) + 4 + 2 * siblings.size() > LINKS) return false;
+        const int child = person();
+        for (int parent : {mother, father}) {
+            tie(parent, child, PARENT_OF, CHILD_OF);
+            children[parent].push_back(child);
+        }
+        for (int sibling : siblings) tie(child, sibling, SIBLING_OF, SIBLING_OF);
+        return true;
+    }
+
+    // A couple from one generation, with one to three children; the two leave it unless they will marry again.
+    bool marry(std::vector<int> &single, std::vector<int> &next) {
+        const int one = below(single.size()), other = below(single.size());
+        const int mother = single[one], father = single[other];
+        if (one == other || links[mother].count(father) || links_in(links) + 2 > LINKS) return true;
+        tie(mother, father, SPOUSE_OF, SPOUSE_OF);
+        for (int i = 1 + below(3); i > 0; --i) {
+            if (!born(mother, father)) return false;
+            next.push_back(int(links.size()) - 1);
+        }
+        for (int place : {std::max(one, other), std::min(one, other)})
+            if (below(2) || children[single[place]].size() > 5) single.erase(single.begin() + place);
+        return true;
+    }
+
+  public:
+    Links links;
+
+    Families(int founders, unsigned seed) : r(seed) {
+        std::vector<int> single, next;
+        while (int(single.size()) < founders) single.push_back(person());
+        for (;; single.swap(next), next.clear()) {
+            for (int tries = 4 * int(single.size()); single.size() > 1 && tries > 0; --tries)
+                if (!marry(single, next)) return;
+            if (next.size() < 2) return;
+        }
+    }
+};
 
 // The file of a graph. Every link is dated, and admitted by a question for all classes, meaning 1 and all days.
 inline Bytes file_of(const Links &links) {

@@ -1,0 +1,42 @@
+// The graphs and the questions that every side is asked.
+#pragma once
+#include "../plain/portion.hpp"
+#include <string>
+
+struct Case {
+    std::string key, name;
+    Links links;
+    std::vector<question> questions;
+    size_t room;   // chains of one question
+    bool whole;    // the room holds all chains
+    bool printed;  // listed by the program as well
+};
+
+// So many questions between two persons drawn at random.
+inline std::vector<question> questions(size_t count, const Links &links, uint32_t hops) {
+    std::mt19937 r(1);
+    std::vector<question> drawn;
+    while (drawn.size() < count) {
+        uint32_t from = uint32_t(r() % links.size()), to = uint32_t(r() % links.size());
+        if (from != to) drawn.push_back(asked(from, to, hops));
+    }
+    return drawn;
+}
+
+inline std::vector<Case> all_cases() {
+    const Links sparse = random_links(1024, 4096, 1), among = filled_up(drawn(128, 31, 1)), medium = random_links(128, 1360, 1);
+    const Links families = Families(120, 1).links;
+    const size_t million = 1200000;
+    return {
+        {"sparse", "1,024 persons, 4,096 links drawn at random, 8 hops, 16 questions", sparse, questions(16, sparse, 8), 10000, true, false},
+        {"dense", "64 persons all linked, 4 hops", all_linked(64), {asked(0, 63, 4)}, 300000, true, false},
+        {"dead", "the dead region, 8 hops", dead_region(), {asked(0, 65, 8)}, 40, true, false},
+        {"families-6", "families with many marriages, 6 hops, 8 questions", families, questions(8, families, 6), 100000, true, false},
+        {"families-8", "families with many marriages, 8 hops, 1 question", families, questions(1, families, 8), 100000, true, false},
+        {"first-families", "first 40 chains: families, 8 hops, 8 questions", families, questions(8, families, 8), 40, false, false},
+        {"first-among", "first 40 of 5.6 million: 128 persons, 31 links each, 6 hops", among, {asked(0, 127, 6)}, 40, false, false},
+        {"first-dense", "first 40 of over 10^12: 64 persons all linked, 8 hops", filled_up(all_linked(64)), {asked(0, 63, 8)}, 40, false, false},
+        {"million-dense", "a million chains: 35 persons all linked, 5 hops", all_linked(35), {asked(0, 34, 5)}, million, true, true},
+        {"million-random", "a million chains: 128 persons, 1,298 links at random, 8 hops", medium, {asked(0, 127, 8)}, million, true, true},
+    };
+}
