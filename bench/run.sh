@@ -17,7 +17,7 @@ mkdir -p "$out"
 has_igraph() { echo '#include <igraph/igraph.h>' | "${CXX:-g++}" -x c++ -fsyntax-only - 2> "$out/igraph.log"; }
 if ! has_igraph; then
   echo "igraph is missing: installing libigraph-dev" >&2
-  apt-get install -y --no-install-recommends libigraph-dev > "$out/apt.log" 2>&1 || true
+  { apt-get update && apt-get install -y --no-install-recommends libigraph-dev; } > "$out/apt.log" 2>&1 || true
 fi
 igraph=()
 if has_igraph; then igraph=(-I/usr/include/igraph -ligraph); else echo "igraph cannot be had: going on without it" >&2; fi
@@ -28,5 +28,5 @@ flags=(-O3 -std=c++17 -Wall -Wextra)
   target/staticlib/liboutside.a "${igraph[@]}"
 
 "$out/beside" target/bin/chains "$out/plain" "$out" "$seconds" > "$out/figures"
-python3 bench/beside/networkx_side.py "$out/cases" "$seconds" > "$out/networkx" || true
+python3 bench/beside/networkx_side.py "$out/cases" "$seconds" > "$out/networkx"
 python3 -B bench/beside/table.py "$seconds" "$out/figures" "$out/networkx"

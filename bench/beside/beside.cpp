@@ -167,11 +167,14 @@ static Outcome run(const Words &words, const std::string &input, const std::stri
 // Count and checksum of the chains in what a program printed. The count of its last line has to be the same.
 static bool check_lines(const std::string &output, uint64_t &count, uint64_t &checksum) {
     count = checksum = 0;
-    unsigned long long end = 0;
+    bool ended = false;
     FILE *lines = fopen(output.c_str(), "r");
     char line[128];
     while (lines && fgets(line, sizeof line, lines)) {
-        if (sscanf(line, "end %llu", &end) == 1) break;
+        if (strncmp(line, "end ", 4) == 0) {
+            ended = strtoull(line + 4, nullptr, 10) == count;
+            break;
+        }
         char *at = line;
         uint32_t persons[RECORD], hops = uint32_t(strtoul(at, &at, 10));
         if (hops > 8 || *at++ != ':') break;
@@ -180,7 +183,7 @@ static bool check_lines(const std::string &output, uint64_t &count, uint64_t &ch
         ++count;
     }
     if (lines) fclose(lines);
-    return end == count;
+    return ended;
 }
 
 // As for the library: a first run for counts and checksums, then turns, to nowhere.

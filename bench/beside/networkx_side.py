@@ -1,7 +1,7 @@
 """networkx's all_simple_paths on the driver's cases: networkx_side.py CASES SECONDS.
 
-The graph is made before the clock starts, with the links in rising order, so that the first chains are the same as ours. Chains are
-taken from the generator and kept nowhere. Writes the driver's lines, without figures of ours; nothing where networkx is not there."""
+The graph is made before the clock starts, with the links in rising order, so that the first chains are the same as ours. Writes the
+driver's lines, without figures of ours; none where networkx is not there."""
 
 import itertools
 import json
@@ -12,7 +12,8 @@ import time
 try:
     import networkx
 except ImportError:
-    sys.exit("networkx is not there: going on without it")
+    print("networkx is not there: going on without it", file=sys.stderr)
+    sys.exit(0)
 
 WORD = (1 << 64) - 1
 
@@ -33,47 +34,45 @@ def chain_checksum(persons):
     return (total ^ total >> 29) * 0x9E3779B97F4A7C15 & WORD
 
 
-def chains(graph, case):
-    for start, end, hops in case["questions"]:
-        listing = networkx.all_simple_paths(graph, start, end, cutoff=hops)
-        yield from listing if case["whole"] else itertools.islice(listing, case["room"])
+def listed(graph, case, question):
+    start, end, hops = question
+    chains = networkx.all_simple_paths(graph, start, end, cutoff=hops)
+    return list(chains if case["whole"] else itertools.islice(chains, case["room"]))
 
 
-def take(graph, case):
-    for _ in chains(graph, case):
-        pass
-
-
-def print_lines(graph, case):
+def printed(graph, case, question):
+    """As listed, with each chain's line printed to nowhere when it is found."""
+    start, end, hops = question
+    found = []
     with open("/dev/null", "w") as nowhere:
-        count = 0
-        for chain in chains(graph, case):
+        for chain in networkx.all_simple_paths(graph, start, end, cutoff=hops):
             nowhere.write(f"{len(chain) - 1}: {' '.join(map(str, chain))}\n")
-            count += 1
-        nowhere.write(f"end {count}\n")
+            found.append(chain)
+        nowhere.write(f"end {len(found)}\n")
+    return found
 
 
-def timed(work, *given):
-    start = time.process_time()
-    work(*given)
-    return time.process_time() - start
-
-
-def least_time(work, graph, case, most):
-    """The least of up to five runs, or Over. Only the first can be stopped; more follow only after a short one."""
-    signal.setitimer(signal.ITIMER_PROF, most)
-    least = timed(work, graph, case)
-    signal.setitimer(signal.ITIMER_PROF, 0)
-    return min([least] + [timed(work, graph, case) for _ in range(4 if least < 0.5 else 0)])
+def run(work, graph, case):
+    """The processor time of all questions, and the count and checksum of their chains; only the lists are timed."""
+    seconds, count, checksum = 0.0, 0, 0
+    for question in case["questions"]:
+        start = time.process_time()
+        found = work(graph, case, question)
+        seconds += time.process_time() - start
+        count += len(found)
+        checksum = (checksum + sum(map(chain_checksum, found))) & WORD
+    return seconds, count, checksum
 
 
 def tell(key, name, work, graph, case, most):
-    state, seconds, count, checksum = "done", most, 0, 0
+    """The least of five runs, or of one if it is long. Only the first can be stopped."""
+    state, (seconds, count, checksum) = "done", (most, 0, 0)
+    signal.setitimer(signal.ITIMER_PROF, most)
     try:
-        seconds = least_time(work, graph, case, most)
-        for chain in chains(graph, case):
-            count += 1
-            checksum = (checksum + chain_checksum(chain)) & WORD
+        seconds, count, checksum = run(work, graph, case)
+        signal.setitimer(signal.ITIMER_PROF, 0)
+        for _ in range(4 if seconds < 0.5 else 0):
+            seconds = min(seconds, run(work, graph, case)[0])
     except Over:
         state = "over time"
     print(key, name, "networkx", state, 0, 0, count, checksum, 0, seconds, sep="\t", flush=True)
@@ -86,9 +85,9 @@ def main(cases, most):
         graph = networkx.DiGraph()
         graph.add_nodes_from(range(len(case["links"])))
         graph.add_edges_from((person, target) for person, row in enumerate(case["links"]) for target in row)
-        tell(case["key"], case["name"], take, graph, case, most)
+        tell(case["key"], case["name"], listed, graph, case, most)
         if case["printed"]:
-            tell("program-" + case["key"], "program, " + case["name"], print_lines, graph, case, most)
+            tell("program-" + case["key"], "program, " + case["name"], printed, graph, case, most)
 
 
 main(sys.argv[1], float(sys.argv[2]))

@@ -24,12 +24,10 @@ def power_name(power):
 
 
 def two_lines(name, most=46):
-    """A name of a case, broken at a space or after a colon where it is too long for the margin."""
+    """A name of a case, broken after a colon or a comma where it is too long for the margin."""
     if len(name) <= most:
         return [name]
-    place = name.find(": ") + 1
-    if not 0 < place <= most:
-        place = name.rfind(" ", 0, most)
+    place = name.find(": ") + 1 or name.rfind(", ", 0, most) + 1
     return [name[:place], name[place + 1 :]]
 
 
@@ -86,7 +84,7 @@ def draw(cases, sides):
     row = BAR * len(sides) + GAP
     bottom = TOP + row * len(cases) + 4
     parts = [text(20, 30, "Listing all chains: the proved library and program beside others", 17, more='font-weight="bold"')]
-    parts += legend(sides, "stopped before its end: shorter still") + axis(scale, bottom)
+    parts += legend(sides, "stopped: its bar would be longer") + axis(scale, bottom)
     for place, case in enumerate(cases):
         y = TOP + row * place + GAP / 2
         names = two_lines(case.name)
