@@ -31,8 +31,10 @@ class Portions : public Side {
     uint64_t (*const portion)(const Call &, Cells &);
 
   public:
-    Portions(const Case &c, uint64_t (*portion)(const Call &, Cells &))
-        : file(file_of(c.links)), whole(c.whole), out(c.room * RECORD), portion(portion) {}
+    Portions(const Case &c, size_t room, bool whole, uint64_t (*portion)(const Call &, Cells &))
+        : file(file_of(c.links)), whole(whole), out(room * RECORD), portion(portion) {}
+
+    Portions(const Case &c, uint64_t (*portion)(const Call &, Cells &)) : Portions(c, c.room(), c.whole(), portion) {}
 
     size_t list(const question &q) override {
         const uint64_t answer = portion({file, q, nullptr}, out);
@@ -110,11 +112,8 @@ static double check_all(Side &side, const Case &c, uint64_t &count, uint64_t &ch
 
 // Our count and checksum of all chains, also where the room is smaller: what a side that cannot stop early is held against.
 static void check_whole(const Case &c, uint64_t &count, uint64_t &checksum) {
-    Case all = c;
-    all.whole = true;
-    all.room = 6000000;
-    Portions whole(all, ours);
-    check_all(whole, all, count, checksum);
+    Portions whole(c, 6000000, true, ours);
+    check_all(whole, c, count, checksum);
 }
 
 // In turns; a side that takes over half a second is timed once.
@@ -140,7 +139,7 @@ static Outcome library_beside(const std::string &name, const Case &c, Figures &f
         const auto other = side(name, c);
         Portions one(c, name == "itself" ? plain<Pruned::by_barriers> : ours);
         Figures found = measured(one, *other, c);
-        if (name == "igraph" && !c.whole) check_whole(c, found.our_count, found.our_checksum);
+        if (name == "igraph" && !c.whole()) check_whole(c, found.our_count, found.our_checksum);
         if (write(ends[1], &found, sizeof found) != ssize_t(sizeof found)) _exit(1);
     });
     close(ends[1]);
@@ -158,7 +157,8 @@ static Outcome run(const Words &words, const std::string &input, const std::stri
         std::vector<char *> argv;
         for (auto &word : words) argv.push_back(const_cast<char *>(word.c_str()));
         argv.push_back(nullptr);
-        if (dup2(open(input.c_str(), O_RDONLY), 0) < 0 || dup2(open(output.c_str(), O_WRONLY | O_CREAT | O_TRUNC, 0644), 1) < 0) _exit(1);
+        const int from = open(input.c_str(), O_RDONLY), to = open(output.c_str(), O_WRONLY | O_CREAT | O_TRUNC, 0644);
+        if (dup2(from, 0) < 0 || dup2(to, 1) < 0) _exit(1);
         execv(argv[0], argv.data());
         _exit(1);
     });
@@ -216,16 +216,20 @@ static void tell(const std::string &key, const std::string &name, const std::str
 static void write_cases(const std::vector<Case> &cases, const std::string &path) {
     FILE *file = fopen(path.c_str(), "w");
     for (const Case &c : cases) {
-        fprintf(file, "{\"key\": \"%s\", \"name\": \"%s\", \"room\": %zu, \"whole\": %d, \"printed\": %d, \"questions\": [", c.key.c_str(),
-                c.name.c_str(), c.room, c.whole, c.printed);
-        for (auto &q : c.questions) fprintf(file, "%s[%u, %u, %u]", &q == &c.questions[0] ? "" : ", ", q.from, q.to, q.hops);
-        fputs("], \"links\": [", file);
-        for (size_t p = 0; p < c.links.size(); ++p) {
-            fputs(p ? ", [" : "[", file);
-            for (auto &row : c.links[p]) fprintf(file, "%s%d", &row == &*c.links[p].begin() ? "" : ", ", row.first);
-            fputs("]", file);
+        fprintf(file, "{\"key\": \"%s\", \"name\": \"%s\", \"room\": %zu, \"whole\": %d, \"printed\": %d", c.key.c_str(), c.name.c_str(),
+                c.room(), c.whole(), c.wanted == A_MILLION);
+        const char *between = ", \"questions\": [";
+        for (auto &q : c.questions) {
+            fprintf(file, "%s[%u, %u, %u]", between, q.from, q.to, q.hops);
+            between = ", ";
         }
-        fputs("]}\n", file);
+        between = "], \"links\": [";
+        for (size_t p = 0; p < c.links.size(); ++p)
+            for (auto &row : c.links[p]) {
+                fprintf(file, "%s[%zu, %d]", between, p, row.first);
+                between = ", ";
+            }
+        fprintf(file, "], \"persons\": %zu}\n", c.links.size());
     }
     fclose(file);
 }
@@ -277,7 +281,7 @@ class Rounds {
             for (const Case &c : cases) {
                 fprintf(stderr, "round %d of %d: %s\n", round, rounds, c.name.c_str());
                 for (auto &side : sides) once(c.key, c.name, side, [&](Figures &f) { return library_beside(side, c, f); });
-                if (c.printed) programs(c);
+                if (c.wanted == A_MILLION) programs(c);
             }
     }
 };

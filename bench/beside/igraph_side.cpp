@@ -1,5 +1,5 @@
-// igraph's igraph_get_all_simple_paths. The graph is made before the clock starts, and the vector it lists into is kept from call to
-// call, so that it grows once: both in igraph's favour. It cannot stop early: it always lists all chains.
+// igraph's igraph_get_all_simple_paths. The graph is made before the clock starts, and the vector it lists into is kept from call
+// to call, so that it grows once: both in igraph's favour. It cannot stop early: it always lists all chains.
 #include "side.hpp"
 
 #if __has_include(<igraph.h>)

@@ -83,8 +83,8 @@ def main(cases, most):
     for case in map(json.loads, open(cases)):
         print(f"networkx: {case['name']}", file=sys.stderr)
         graph = networkx.DiGraph()
-        graph.add_nodes_from(range(len(case["links"])))
-        graph.add_edges_from((person, target) for person, row in enumerate(case["links"]) for target in row)
+        graph.add_nodes_from(range(case["persons"]))
+        graph.add_edges_from(case["links"])
         tell(case["key"], case["name"], listed, graph, case, most)
         if case["printed"]:
             tell("program-" + case["key"], "program, " + case["name"], printed, graph, case, most)

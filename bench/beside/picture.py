@@ -10,11 +10,17 @@ FONT = 'font-family="Helvetica, Arial, sans-serif"'
 
 
 def text(x, y, words, size=12, anchor="start", colour="#222", more=""):
-    return f'<text x="{x:.1f}" y="{y:.1f}" font-size="{size}" text-anchor="{anchor}" fill="{colour}" {more}>{html.escape(words)}</text>'
+    place = f'x="{x:.1f}" y="{y:.1f}" font-size="{size}" text-anchor="{anchor}"'
+    return f'<text {place} fill="{colour}" {more}>{html.escape(words)}</text>'
 
 
 def line(x1, y1, x2, y2, colour, width=1):
     return f'<line x1="{x1:.1f}" y1="{y1:.1f}" x2="{x2:.1f}" y2="{y2:.1f}" stroke="{colour}" stroke-width="{width}"/>'
+
+
+def box(x, y, width, colour, stopped=False):
+    style = f'fill="{colour}"' + (f' fill-opacity="0.3" stroke="{colour}" stroke-dasharray="3 2"' if stopped else "")
+    return f'<rect x="{x:.1f}" y="{y:.1f}" width="{width:.1f}" height="{BAR - 1}" {style}/>'
 
 
 def power_name(power):
@@ -40,30 +46,26 @@ class Scale:
         return LEFT + (math.log10(ratio) - self.low) / (self.high - self.low) * (WIDTH - LEFT - RIGHT)
 
 
-def legend(sides, limit_words):
+def legend(sides):
     parts, x = [], 20
-    for side, name in sides.items():
-        parts.append(f'<rect x="{x}" y="56" width="14" height="{BAR}" fill="{COLOURS[side]}"/>')
-        parts.append(text(x + 20, 66, name))
+    for name, colour, stopped in [
+        *((name, COLOURS[side], False) for side, name in sides.items()),
+        ("stopped: its bar would be longer", "#888", True),
+    ]:
+        parts += [box(x, 56, 14, colour, stopped), text(x + 20, 66, name)]
         x += 50 + 7 * len(name)
-    parts.append(f'<rect x="{x}" y="56" width="14" height="{BAR}" fill="#999" fill-opacity="0.35" stroke="#999" stroke-dasharray="3 2"/>')
-    parts.append(text(x + 20, 66, limit_words))
     return parts
 
 
 def bar(scale, y, cell, colour):
     end, one = scale.x(cell.ratio), scale.x(1)
     left, width = min(end, one), max(abs(end - one), 1.5)
-    style = f'fill="{colour}"'
+    parts = [box(left, y, width, colour, cell.stopped)]
     if cell.stopped:
-        style = f'fill="{colour}" fill-opacity="0.3" stroke="{colour}" stroke-dasharray="3 2"'
-    label = f"stopped: {cell.stopped}" if cell.stopped else cell.figure
-    parts = [f'<rect x="{left:.1f}" y="{y:.1f}" width="{width:.1f}" height="{BAR - 1}" {style}/>']
-    if cell.stopped:
-        return parts + [text(left + 6, y + BAR - 2, label, 10)]
+        return parts + [text(left + 6, y + BAR - 2, f"stopped: {cell.stopped}", 10)]
     if end < one:
-        return parts + [text(left - 4, y + BAR - 2, label, 10, "end")]
-    return parts + [text(left + width + 4, y + BAR - 2, label, 10)]
+        return parts + [text(left - 4, y + BAR - 2, cell.figure, 10, "end")]
+    return parts + [text(left + width + 4, y + BAR - 2, cell.figure, 10)]
 
 
 def axis(scale, bottom):
@@ -84,7 +86,7 @@ def draw(cases, sides):
     row = BAR * len(sides) + GAP
     bottom = TOP + row * len(cases) + 4
     parts = [text(20, 30, "Listing all chains: the proved library and program beside others", 17, more='font-weight="bold"')]
-    parts += legend(sides, "stopped: its bar would be longer") + axis(scale, bottom)
+    parts += legend(sides) + axis(scale, bottom)
     for place, case in enumerate(cases):
         y = TOP + row * place + GAP / 2
         names = two_lines(case.name)
@@ -96,5 +98,6 @@ def draw(cases, sides):
         if place:
             parts.append(line(20, y - GAP / 2, WIDTH - 20, y - GAP / 2, "#eee"))
     height = bottom + 52
-    head = f'<svg xmlns="http://www.w3.org/2000/svg" viewBox="0 0 {WIDTH} {height}" width="{WIDTH}" height="{height}" {FONT}>'
-    return "\n".join([head, f'<rect width="{WIDTH}" height="{height}" fill="#fff"/>', *parts, "</svg>"]) + "\n"
+    size = f'width="{WIDTH}" height="{height}"'
+    head = f'<svg xmlns="http://www.w3.org/2000/svg" viewBox="0 0 {WIDTH} {height}" {size} {FONT}>'
+    return "\n".join([head, f'<rect {size} fill="#fff"/>', *parts, "</svg>"]) + "\n"
