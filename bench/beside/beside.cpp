@@ -216,8 +216,8 @@ static void tell(const std::string &key, const std::string &name, const std::str
 static void write_cases(const std::vector<Case> &cases, const std::string &path) {
     FILE *file = fopen(path.c_str(), "w");
     for (const Case &c : cases) {
-        fprintf(file, "{\"key\": \"%s\", \"name\": \"%s\", \"room\": %zu, \"whole\": %d, \"printed\": %d", c.key.c_str(), c.name.c_str(),
-                c.room(), c.whole(), c.wanted == A_MILLION);
+        fprintf(file, "{\"key\": \"%s\", \"name\": \"%s\", \"room\": %zu, \"whole\": %d, \"printed\": %d", c.key.c_str(),
+                c.name.c_str(), c.room(), c.whole(), c.wanted == A_MILLION);
         const char *between = ", \"questions\": [";
         for (auto &q : c.questions) {
             fprintf(file, "%s[%u, %u, %u]", between, q.from, q.to, q.hops);

@@ -12,8 +12,8 @@ struct Side {
     virtual uint64_t checksum() const = 0;
 };
 
-// Those of a list are added up, so that its order does not count. Mixed at the end, so that an exchange of persons between two chains
-// changes the sum.
+// Those of a list are added up, so that its order does not count. Mixed at the end, so that an exchange of persons between two
+// chains changes the sum.
 template <class Number> uint64_t chain_checksum(const Number *persons, size_t count) {
     uint64_t sum = 0;
     for (size_t i = 0; i < count; ++i) sum = sum * 1000003 + uint64_t(persons[i]) + 1;

@@ -116,8 +116,9 @@ def noise(cases):
     itself, apart = spread(cases, "itself")
     same, same_apart = spread(cases, "pruned")
     return (
-        f"Noise of this run, up to three rounds: the plain code against itself gave {itself}, and two rounds of one case were up to "
-        f"{apart} in a hundred apart. Ours against the same pruning gave {same}; two rounds were up to {same_apart} in a hundred apart."
+        f"Noise of this run, up to three rounds: the plain code against itself gave {itself}, and two rounds of one case were up "
+        f"to {apart} in a hundred apart. Ours against the same pruning gave {same}; two rounds were up to {same_apart} in a hundred "
+        "apart."
     )
 
 

@@ -1,6 +1,6 @@
 // The public portion, from the file's bytes to the records, against the same in plain C and C++: check, compact graph, distance
-// table, then the depth-first search. All are timed in turns in one run; what is printed is the ratio of the
-// least times. Never part of pass or fail.
+// table, then the depth-first search. All are timed in turns in one run; what is printed is the ratio of the least times. Never
+// part of pass or fail.
 #include "../plain/measure.hpp"
 #include "../plain/portion.hpp"
 #include <cstdio>
