@@ -124,7 +124,7 @@ static Figures measured(Side &one, Side &other, const Case &c) {
     f.our_seconds = check_all(one, c, f.our_count, f.our_checksum);
     const bool once = f.seconds > 0.5;
     const int our_calls = calls_a_turn(f.our_seconds), calls = calls_a_turn(f.seconds);
-    const double stop = seconds() + 0.35;
+    const double stop = seconds() + 0.25;
     for (int i = 0; i < 3 || seconds() < stop; ++i) {
         f.our_seconds = std::min(f.our_seconds, timed([&] { ask_all(one, c); }, our_calls));
         if (!once) f.seconds = std::min(f.seconds, timed([&] { ask_all(other, c); }, calls));
