@@ -86,9 +86,9 @@ inline Links many_into_dead(int many) {
     return l;
 }
 
-// Families over generations: every tie is linked both ways, couples, parents and children, siblings and half siblings. Who has been
-// married once marries again as often as not, up to three times, and nobody marries a sibling. Children are born until the next
-// one would pass a limit of the file.
+// Families over generations: every tie is linked both ways, couples, parents and children, siblings and half siblings. After a
+// marriage every second one may marry again, so that many persons have several marriages; nobody marries a sibling. Children are
+// born until the next one would pass a limit of the file.
 class Families {
     std::mt19937 r;
     std::vector<std::vector<int>> children;
@@ -121,7 +121,7 @@ class Families {
         return true;
     }
 
-    // A couple from one generation, with one to three children; the two leave it unless they will marry again.
+    // A couple from one generation, with one to three children. Each of the two may stay, to marry again. False at a limit.
     bool marry(std::vector<int> &single, std::vector<int> &next) {
         const int one = below(single.size()), other = below(single.size());
         const int mother = single[one], father = single[other];
