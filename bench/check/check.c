@@ -2,10 +2,9 @@
    timed in turns in one run; what is printed is the best turn of each and their ratio. Never part of pass or fail. */
 
 #include "../plain/check.h"
+#include "../plain/clock.h"
+#include "../plain/kin.h"
 #include <stdio.h>
-#include <time.h>
-
-uint64_t kin_check(const uint8_t *file, size_t length);
 
 enum { TURNS = 200, CALLS_A_TURN = 20 };
 
@@ -13,16 +12,9 @@ enum { TURNS = 200, CALLS_A_TURN = 20 };
 
 typedef uint64_t check_function(const uint8_t *file, size_t length);
 
-/* The time this process has had, so that other work on the machine counts less. */
-static double now(void) {
-  struct timespec time;
-  clock_gettime(CLOCK_PROCESS_CPUTIME_ID, &time);
-  return (double)time.tv_sec * 1e6 + (double)time.tv_nsec / 1e3;
-}
-
 /* Microseconds a call. The file's address is hidden from the compiler, so that no call is left out. */
 static double turn(check_function *check, const uint8_t *file, uint64_t right) {
-  double start = now();
+  double start = seconds();
   for (int i = 0; i < CALLS_A_TURN; i++) {
     __asm__ volatile("" : "+r"(file) : : "memory");
     if (check(file, LENGTH) != right) {
@@ -30,7 +22,7 @@ static double turn(check_function *check, const uint8_t *file, uint64_t right) {
       exit(1);
     }
   }
-  return (now() - start) / CALLS_A_TURN;
+  return (seconds() - start) * 1e6 / CALLS_A_TURN;
 }
 
 int main(void) {

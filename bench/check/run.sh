@@ -1,9 +1,4 @@
 #!/usr/bin/env bash
-# Builds and runs the benchmark of the check: the static library's kin_check against a plain C loop, on the largest file.
-# target/staticlib/liboutside.a has to stand. Prints the ratio and both times; no bound is tested.
-set -eu
-cd "$(dirname "${BASH_SOURCE[0]}")/../.."
-
-mkdir -p target/bench
-"${CC:-cc}" -O3 -std=gnu11 -Wall -Wextra -o target/bench/check bench/check/check.c target/staticlib/liboutside.a
-target/bench/check
+# Builds and runs the benchmark of the check: the static library's kin_check against a plain C loop, on the largest file. The
+# archive has to stand; another one may be named. Prints the ratio and both times; no bound is tested.
+exec bash "$(dirname "${BASH_SOURCE[0]}")/../plain/measure.sh" bench/check/check.c "$@"

@@ -2,13 +2,10 @@
    limits. kin_fewest checks the file first, so kin_check is timed beside it and taken off: what is left is graph and table.
    All are timed in turns in one run; what is printed is the best turn of each and their ratio. Never part of pass or fail. */
 
+#include "../plain/clock.h"
 #include "../plain/graph.h"
+#include "../plain/kin.h"
 #include <stdio.h>
-#include <time.h>
-
-uint64_t kin_check(const uint8_t *file, size_t length);
-uint64_t kin_fewest(const uint8_t *file, size_t length, uint32_t from, uint32_t to, uint32_t hops, uint32_t classes,
-                    uint32_t meaning, uint32_t first, uint32_t last, uint32_t person);
 
 enum { TURNS = 300, CALLS_A_TURN = 20 };
 
@@ -22,18 +19,11 @@ __attribute__((noinline)) static uint64_t plain_fewest(const uint8_t *file, cons
 
 /* Timing. */
 
-/* The time this process has had, so that other work on the machine counts less. */
-static double now(void) {
-  struct timespec time;
-  clock_gettime(CLOCK_PROCESS_CPUTIME_ID, &time);
-  return (double)time.tv_sec * 1e6 + (double)time.tv_nsec / 1e3;
-}
-
 enum way { PLAIN, PROVED, CHECK };
 
 /* Microseconds a call. The file's address is hidden from the compiler, so that no call is left out. */
 static double turn(enum way way, const uint8_t *file, const question *q, uint32_t person, uint64_t right) {
-  double start = now();
+  double start = seconds();
   for (int i = 0; i < CALLS_A_TURN; i++) {
     __asm__ volatile("" : "+r"(file) : : "memory");
     uint64_t answer = way == PLAIN    ? plain_fewest(file, q, person)
@@ -45,7 +35,7 @@ static double turn(enum way way, const uint8_t *file, const question *q, uint32_
       exit(1);
     }
   }
-  return (now() - start) / CALLS_A_TURN;
+  return (seconds() - start) * 1e6 / CALLS_A_TURN;
 }
 
 static void compare(const uint8_t *file, const question *q, const char *name) {

@@ -1,60 +1,10 @@
 // The public join, from the file's bytes to the records, against a join in plain C++ and against the public portion, each with
 // room for all half chains and all chains. All are timed in turns in one run; what is printed is the ratio of the least times.
 // Never part of pass or fail.
-#include "../plain/check.h"
-#include "../plain/graph.h"
 #include "../plain/measure.hpp"
-#include <array>
+#include "../plain/portion.hpp"
 #include <cstdio>
 #include <string>
-
-extern "C" uint64_t kin_portion(const uint8_t *file, size_t length, uint32_t from, uint32_t to, uint32_t hops, uint32_t classes,
-                                uint32_t meaning, uint32_t first, uint32_t last, uint32_t started, const uint32_t *bookmark,
-                                size_t bookmark_cells, uint32_t *out, size_t cells);
-extern "C" uint64_t kin_join(const uint8_t *file, size_t length, uint32_t from, uint32_t to, uint32_t hops, uint32_t classes,
-                             uint32_t meaning, uint32_t first, uint32_t last, uint32_t *working, size_t working_cells,
-                             uint32_t *out, size_t cells);
-
-using Bytes = std::vector<uint8_t>;
-using Cells = std::vector<uint32_t>;
-
-static const uint64_t ENDED = uint64_t(1) << 62;
-static const size_t RECORD = 10;
-
-// Every link is dated, of class 1, and admitted by the questions asked here.
-static Bytes file_of(Links links) {
-    size_t m = 0;
-    for (auto &row : links) {
-        std::sort(row.begin(), row.end());
-        row.erase(std::unique(row.begin(), row.end()), row.end());
-        m += row.size();
-    }
-    const uint32_t n = uint32_t(links.size()), rows = 32 + 4, table = rows + 4 * (n + 1);
-    const uint32_t header[7] = {n, uint32_t(m), 1, 32, rows, table, uint32_t(table + 12 * m)};
-    Bytes file(header[6]);
-    memcpy(file.data(), "KLF1", 4);
-    uint8_t *at = file.data() + 4;
-    for (uint32_t number : header) at = put(at, number, 4);
-    at = put(put(at, 11, 2), 1, 2);
-    uint32_t entry = 0;
-    at = put(at, entry, 4);
-    for (auto &row : links) at = put(at, entry += uint32_t(row.size()), 4);
-    for (auto &row : links)
-        for (int v : row) at = put(put(put(put(at, uint32_t(v), 4), 700000, 4), 0, 2), 1, 2);
-    return file;
-}
-
-// Each person is linked with so many others, drawn at random.
-static Links drawn(int n, int degree, unsigned seed) {
-    std::mt19937 r(seed);
-    Links l(n);
-    for (int p = 0; p < n; ++p)
-        while (int(l[p].size()) < degree) {
-            int q = int(r() % n);
-            if (q != p && std::find(l[p].begin(), l[p].end(), q) == l[p].end()) l[p].push_back(q);
-        }
-    return l;
-}
 
 // The join in plain C++. Half chains are built by putting each person before those of one hop fewer; the index has for each
 // number of hops and each first person the first record. No count beforehand: the working cells have to do.
@@ -130,7 +80,7 @@ struct Plain {
     }
 };
 
-static uint64_t plain(const Bytes &file, const question &q, Cells &working, Cells &out) {
+static uint64_t plain_join(const Bytes &file, const question &q, Cells &working, Cells &out) {
     uint64_t verdict = plain_check(file.data(), file.size());
     if (verdict & REFUSED) return verdict;
     Plain p;
@@ -145,28 +95,23 @@ static uint64_t plain(const Bytes &file, const question &q, Cells &working, Cell
     return p.count + (p.more ? 0 : ENDED);
 }
 
-static uint64_t ours(const Bytes &file, const question &q, Cells &working, Cells &out) {
+static uint64_t our_join(const Bytes &file, const question &q, Cells &working, Cells &out) {
     return kin_join(file.data(), file.size(), q.from, q.to, q.hops, q.classes, q.meaning, q.first, q.last, working.data(),
                     working.size(), out.data(), out.size());
 }
 
-static uint64_t searched(const Bytes &file, const question &q, Cells &out) {
-    return kin_portion(file.data(), file.size(), q.from, q.to, q.hops, q.classes, q.meaning, q.first, q.last, 0, nullptr, 0,
-                       out.data(), out.size());
-}
-
 static void row(const std::string &name, const Links &links, uint32_t hops, size_t halves, size_t chains) {
     Bytes file = file_of(links);
-    question q{0, uint32_t(links.size() - 1), hops, 15, 1, 1, LAST_DAY};
+    question q = asked(0, uint32_t(links.size() - 1), hops);
     Cells w(halves * RECORD, 7), v(halves * RECORD, 7), x(chains * RECORD), y(chains * RECORD), z(chains * RECORD);
     uint64_t n = 0, m = 0, s = 0;
     double join, other, again, search;
-    least([&] { n = ours(file, q, w, x); }, [&] { m = plain(file, q, v, y); }, join, other);
-    least([&] { n = ours(file, q, w, x); }, [&] { s = searched(file, q, z); }, again, search);
+    least([&] { n = our_join(file, q, w, x); }, [&] { m = plain_join(file, q, v, y); }, join, other);
+    least([&] { n = our_join(file, q, w, x); }, [&] { s = ours({file, q, nullptr}, z); }, again, search);
     const size_t found = size_t(n & ~ENDED);
     printf("%-40s %9zu %10.2f %10.2f %12.1f %8.1f\n", name.c_str(), found, join / other, again / search, join * 1e6,
            join * 1e9 / double(std::max(found, size_t(1))));
-    if (n != m || n != s || w != v || x != y || !(n & ENDED)) printf("  DIFFERENT %llx %llx %llx\n", (unsigned long long)n, (unsigned long long)m, (unsigned long long)s);
+    if (n != m || n != s || w != v || x != y || !(n & ENDED)) puts("  DIFFERENT");
 }
 
 int main() {

@@ -4,11 +4,11 @@
 
 static const uint64_t REFUSED = (uint64_t)1 << 63;
 
-static uint64_t refused(uint64_t number, uint64_t place) { return REFUSED + (number << 32) + place; }
+static inline uint64_t refused(uint64_t number, uint64_t place) { return REFUSED + (number << 32) + place; }
 
-static int known(uint8_t kind) { return (kind >= 1 && kind <= 5) || (kind >= 16 && kind <= 31); }
+static inline int known(uint8_t kind) { return (kind >= 1 && kind <= 5) || (kind >= 16 && kind <= 31); }
 
-static uint64_t plain_feeds(const uint8_t *feeds, uint32_t f) {
+static inline uint64_t plain_feeds(const uint8_t *feeds, uint32_t f) {
   uint32_t before = 0;
   for (uint32_t i = 0; i < f; i++) {
     const uint8_t *feed = feeds + 4 * i;
@@ -20,7 +20,7 @@ static uint64_t plain_feeds(const uint8_t *feeds, uint32_t f) {
   return 0;
 }
 
-static uint64_t plain_rows(const uint8_t *rows, uint32_t n, uint32_t m) {
+static inline uint64_t plain_rows(const uint8_t *rows, uint32_t n, uint32_t m) {
   if (number32(rows) != 0) return refused(6, 0);
   uint32_t before = 0;
   for (uint32_t i = 1; i <= n; i++) {
@@ -31,7 +31,7 @@ static uint64_t plain_rows(const uint8_t *rows, uint32_t n, uint32_t m) {
   return 0;
 }
 
-static uint64_t plain_links(const uint8_t *rows, const uint8_t *links, uint32_t n, uint32_t f) {
+static inline uint64_t plain_links(const uint8_t *rows, const uint8_t *links, uint32_t n, uint32_t f) {
   for (uint32_t p = 0; p < n; p++) {
     uint32_t first = number32(rows + 4 * p), end = number32(rows + 4 * p + 4);
     for (uint32_t i = first; i < end; i++) {
@@ -47,7 +47,7 @@ static uint64_t plain_links(const uint8_t *rows, const uint8_t *links, uint32_t 
   return 0;
 }
 
-__attribute__((noinline)) static uint64_t plain_check(const uint8_t *file, size_t length) {
+__attribute__((noinline, unused)) static uint64_t plain_check(const uint8_t *file, size_t length) {
   if (length < 32 || memcmp(file, "KLF1", 4) != 0) return refused(1, 0);
   uint32_t n = number32(file + 4), m = number32(file + 8), f = number32(file + 12);
   if (n < 1 || n > PERSONS || m > LINKS || f > FEEDS) return refused(2, 0);

@@ -6,22 +6,22 @@
 
 enum { PERSONS = 1024, LINKS = 4096, FEEDS = 16, LENGTH = 53348, LAST_DAY = 3652059 };
 
-static uint32_t number16(const uint8_t *at) { return at[0] | (uint32_t)at[1] << 8; }
+static inline uint32_t number16(const uint8_t *at) { return at[0] | (uint32_t)at[1] << 8; }
 
-static uint32_t number32(const uint8_t *at) {
+static inline uint32_t number32(const uint8_t *at) {
   return at[0] | (uint32_t)at[1] << 8 | (uint32_t)at[2] << 16 | (uint32_t)at[3] << 24;
 }
 
-static uint8_t *put(uint8_t *at, uint32_t number, int bytes) {
+static inline uint8_t *put(uint8_t *at, uint32_t number, int bytes) {
   for (int i = 0; i < bytes; i++) at[i] = (uint8_t)(number >> 8 * i);
   return at + bytes;
 }
 
 /* The largest file: four links a person, of all kinds, dated and undated, from feeds of both meanings. */
 
-static int rising(const void *one, const void *other) { return *(const int *)one - *(const int *)other; }
+static inline int rising(const void *one, const void *other) { return *(const int *)one - *(const int *)other; }
 
-static uint8_t *put_row(uint8_t *at, int person) {
+static inline uint8_t *put_row(uint8_t *at, int person) {
   static const uint8_t kinds[10] = {1, 2, 3, 4, 5, 16, 17, 23, 30, 31};
   static const uint32_t days[4] = {0, 1, 700000, LAST_DAY};
   int targets[4] = {(person + 1) % PERSONS, (person + 7) % PERSONS, (person + 300) % PERSONS,
@@ -37,7 +37,7 @@ static uint8_t *put_row(uint8_t *at, int person) {
   return at;
 }
 
-static void write_largest(uint8_t *file) {
+static inline void write_largest(uint8_t *file) {
   const uint32_t rows = 32 + 4 * FEEDS, links = rows + 4 * (PERSONS + 1);
   const uint32_t header[7] = {PERSONS, LINKS, FEEDS, 32, rows, links, LENGTH};
   memcpy(file, "KLF1", 4);

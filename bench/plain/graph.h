@@ -6,7 +6,7 @@ typedef struct {
   uint32_t from, to, hops, classes, meaning, first, last;
 } question;
 
-static uint32_t class_of(uint8_t kind) {
+static inline uint32_t class_of(uint8_t kind) {
   switch (kind) {
     case 1:
     case 2:
@@ -17,14 +17,14 @@ static uint32_t class_of(uint8_t kind) {
   }
 }
 
-static int admitted(const uint8_t *file, const uint8_t *link, const question *q) {
+static inline int admitted(const uint8_t *file, const uint8_t *link, const question *q) {
   if ((class_of(link[10]) & q->classes) == 0) return 0;
   uint32_t day = number32(link + 4);
   if (day == 0) return 1;
   return q->first <= day && day <= q->last && file[32 + 4 * number16(link + 8) + 2] == q->meaning;
 }
 
-static void fill(const uint8_t *file, const question *q, uint16_t *starts, uint16_t *targets) {
+static inline void fill(const uint8_t *file, const question *q, uint16_t *starts, uint16_t *targets) {
   uint32_t n = number32(file + 4);
   const uint8_t *rows = file + number32(file + 20), *links = file + number32(file + 24);
   uint16_t end = 0;
@@ -37,13 +37,13 @@ static void fill(const uint8_t *file, const question *q, uint16_t *starts, uint1
   }
 }
 
-static int leads(const uint16_t *starts, const uint16_t *targets, const uint8_t *cells, uint32_t person, uint8_t hops) {
+static inline int leads(const uint16_t *starts, const uint16_t *targets, const uint8_t *cells, uint32_t person, uint8_t hops) {
   for (uint32_t at = starts[person]; at < starts[person + 1]; at++)
     if (cells[targets[at]] == hops) return 1;
   return 0;
 }
 
-static void distances(const uint16_t *starts, const uint16_t *targets, uint32_t to, uint8_t most, uint8_t *cells) {
+static inline void distances(const uint16_t *starts, const uint16_t *targets, uint32_t to, uint8_t most, uint8_t *cells) {
   memset(cells, most + 1, PERSONS);
   cells[to] = 0;
   for (uint8_t hops = 0; hops < most; hops++) {

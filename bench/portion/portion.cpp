@@ -1,128 +1,11 @@
 // The public portion, from the file's bytes to the records, against the same in plain C and C++: check, compact graph, distance
-// table, then the depth-first search of bench/search. All are timed in turns in one run; what is printed is the ratio of the
-// least times. Never part of pass or fail.
-#include "../plain/check.h"
-#include "../plain/graph.h"
+// table, then the depth-first search. All are timed in turns in one run; what is printed is the ratio of the least times. Never
+// part of pass or fail.
 #include "../plain/measure.hpp"
-#include "../search/search.h"
+#include "../plain/portion.hpp"
 #include <cstdio>
 #include <functional>
 #include <string>
-
-extern "C" uint64_t kin_check(const uint8_t *file, size_t length);
-extern "C" uint64_t kin_row(const uint8_t *file, size_t length, uint32_t person);
-extern "C" uint64_t kin_fewest(const uint8_t *file, size_t length, uint32_t from, uint32_t to, uint32_t hops, uint32_t classes,
-                               uint32_t meaning, uint32_t first, uint32_t last, uint32_t person);
-extern "C" uint64_t kin_portion(const uint8_t *file, size_t length, uint32_t from, uint32_t to, uint32_t hops, uint32_t classes,
-                                uint32_t meaning, uint32_t first, uint32_t last, uint32_t started, const uint32_t *bookmark,
-                                size_t bookmark_cells, uint32_t *out, size_t cells);
-
-using Bytes = std::vector<uint8_t>;
-using Cells = std::vector<uint32_t>;
-
-static const uint64_t ENDED = uint64_t(1) << 62;
-static const size_t RECORD = 10;
-
-// Files. Every link is dated, of any kind, and admitted by the questions asked here.
-
-static Bytes file_of(Links links) {
-    size_t m = 0;
-    for (auto &row : links) {
-        std::sort(row.begin(), row.end());
-        row.erase(std::unique(row.begin(), row.end()), row.end());
-        m += row.size();
-    }
-    const uint32_t n = uint32_t(links.size()), rows = 32 + 4 * FEEDS, table = rows + 4 * (n + 1);
-    const uint32_t header[7] = {n, uint32_t(m), FEEDS, 32, rows, table, uint32_t(table + 12 * m)};
-    Bytes file(header[6]);
-    memcpy(file.data(), "KLF1", 4);
-    uint8_t *at = file.data() + 4;
-    for (uint32_t number : header) at = put(at, number, 4);
-    for (uint32_t i = 0; i < FEEDS; ++i) at = put(put(at, 100 * (i + 1), 2), 1, 2);
-    uint32_t entry = 0;
-    at = put(at, entry, 4);
-    for (auto &row : links) at = put(at, entry += uint32_t(row.size()), 4);
-    const uint8_t kinds[10] = {1, 2, 3, 4, 5, 16, 17, 23, 30, 31};
-    uint32_t number = 0;
-    for (auto &row : links)
-        for (int v : row) {
-            at = put(put(at, uint32_t(v), 4), 700000 + number, 4);
-            at = put(put(at, number % FEEDS, 2), kinds[number % 10], 2);
-            ++number;
-        }
-    return file;
-}
-
-// The same graph in a file with all counts at their limits: the other persons and links are out of its reach.
-static Bytes largest_of(Links links) {
-    const int first = int(links.size());
-    links.resize(PERSONS);
-    size_t m = 0;
-    for (auto &row : links) m += row.size();
-    for (int step = 1; m < LINKS; ++step)
-        for (int p = first; p + step < PERSONS && m < LINKS; ++p, ++m) links[p].push_back(p + step);
-    return file_of(links);
-}
-
-// Each person is linked with so many others, drawn at random.
-static Links drawn(int n, int degree, unsigned seed) {
-    std::mt19937 r(seed);
-    Links l(n);
-    for (int p = 0; p < n; ++p)
-        while (int(l[p].size()) < degree) {
-            int q = int(r() % n);
-            if (q != p && std::find(l[p].begin(), l[p].end(), q) == l[p].end()) l[p].push_back(q);
-        }
-    return l;
-}
-
-// 0 to b, b to so many persons, each of them to t and into one region of 50 persons all linked, which leads back to b only.
-static Links many_into_dead(int many) {
-    const int region = 2 + many, to = region + 50;
-    Links l(to + 1);
-    l[0].push_back(1);
-    for (int p = 2; p < region; ++p) {
-        l[1].push_back(p);
-        l[p] = {region, to};
-    }
-    for (int p = region; p < to; ++p) {
-        l[p].push_back(1);
-        for (int q = region; q < to; ++q)
-            if (p != q) l[p].push_back(q);
-    }
-    return l;
-}
-
-// Calls.
-
-struct Call {
-    const Bytes &file;
-    question q;
-    const uint32_t *bookmark;
-};
-
-static question asked(uint32_t from, uint32_t to, uint32_t hops) { return {from, to, hops, 15, 1, 1, LAST_DAY}; }
-
-static uint64_t ours(const Call &c, Cells &out) {
-    const question &q = c.q;
-    return kin_portion(c.file.data(), c.file.size(), q.from, q.to, q.hops, q.classes, q.meaning, q.first, q.last,
-                       c.bookmark ? 1 : 0, c.bookmark, c.bookmark ? RECORD : 0, out.data(), out.size());
-}
-
-using Search = size_t(const Asked &, uint32_t *, size_t);
-
-// It does not test whether the bookmark is a chain.
-static uint64_t plain(const Call &c, Cells &out, Search *search = baseline) {
-    uint64_t verdict = plain_check(c.file.data(), c.file.size());
-    if (verdict & REFUSED) return verdict;
-    uint16_t starts[PERSONS + 1] = {0}, targets[LINKS] = {0};
-    uint8_t cells[PERSONS];
-    fill(c.file.data(), &c.q, starts, targets);
-    distances(starts, targets, c.q.to, uint8_t(c.q.hops), cells);
-    Asked a{starts, targets, cells, c.q.from, c.q.to, c.q.hops, c.bookmark ? 1u : 0u, c.bookmark};
-    uint64_t r = search(a, out.data(), out.size());
-    return r & ENDED ? r - ENDED : r + ENDED;
-}
 
 // Rows of the table.
 
@@ -166,7 +49,7 @@ static void dead_regions() {
     compare("against the same pruning", c, 40);
     Cells x(400), y(400);
     uint64_t n = 0, m = 0;
-    double tx = 1e9, ty = timed([&] { m = plain(c, y, distance_only); }, 1);
+    double tx = 1e9, ty = timed([&] { m = plain<Pruned::by_distances>(c, y); }, 1);
     for (int i = 0; i < 1000; ++i) tx = std::min(tx, timed([&] { n = ours(c, x); }, 5));
     if (n != m || x != y) puts("  DIFFERENT");
     say("against distances only", n, tx, ty);
@@ -212,7 +95,7 @@ static void behind(const char *name, const Call &fresh, std::vector<size_t> befo
 static void room_of_forty() {
     Bytes largest(LENGTH);
     write_largest(largest.data());
-    Bytes dense = largest_of(all_linked(64)), among = largest_of(drawn(128, 31, 1));
+    Bytes dense = file_of(filled_up(all_linked(64))), among = file_of(filled_up(drawn(128, 31, 1)));
     Call sparse{largest, asked(0, 1023, 8), nullptr}, wide{among, asked(0, 127, 6), nullptr}, huge{dense, asked(0, 63, 8), nullptr};
     head("room 40, fresh, all counts of the file at their limits", "plain us");
     compare("four links a person, 8 hops", sparse, 40);
@@ -245,7 +128,7 @@ static size_t stack_of(std::function<void()> f) {
 }
 
 static void stack() {
-    Bytes dense = largest_of(all_linked(64));
+    Bytes dense = file_of(filled_up(all_linked(64)));
     question q = asked(0, 63, 8);
     Cells out(400), bookmark{8, 0, 31, 32, 33, 34, 35, 36, 37, 63};
     Call fresh{dense, q, nullptr}, later{dense, q, bookmark.data()};

@@ -20,4 +20,5 @@ for _ in $(seq 15); do
   plain+=("$(turn target/bench/program_plain)")
 done
 least() { printf '%s\n' "$@" | sort -n | head -1; }
-awk -v a="$(least "${ours[@]}")" -v b="$(least "${plain[@]}")" 'BEGIN { printf "chains / plain C++: %.2f (%.0f ms / %.0f ms)\n", a / b, 1000 * a, 1000 * b }'
+awk -v a="$(least "${ours[@]}")" -v b="$(least "${plain[@]}")" \
+  'BEGIN { printf "chains / plain C++: %.2f (%.0f ms / %.0f ms)\n", a / b, 1000 * a, 1000 * b }'

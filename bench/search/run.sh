@@ -47,5 +47,5 @@ pub extern "C" fn bench_list(
 END
 (cd "$copy" && rt staticlib bench_export >build.log 2>&1) || { tail -20 "$copy/build.log"; exit 1; }
 cxx=${CXX:-g++}
-"$cxx" -std=c++17 -O3 -pthread -I"$here" "$here/drive.cpp" "$here/baseline.cpp" "$copy/target/staticlib/libbench_export.a" -o "$copy/drive"
+"$cxx" -std=c++17 -O3 -Wall -Wextra -pthread "$here/drive.cpp" "$copy/target/staticlib/libbench_export.a" -o "$copy/drive"
 "$copy/drive"
