@@ -1,37 +1,31 @@
 -- Calls one after another: each starts behind the last record that was handed over, so the listing comes end to end, and then nothing more.
 use mathlib.Core.Path.{_≡_, refl, sym, ap, subst, _∙_}
-use mathlib.Core.Logic.{_⊎_, inl, inr}
-use mathlib.Core.Bool.{Bool, true, false}
-use mathlib.Core.List.{List, [], _∷_, List·Memᴰ·head, List·Memᴰ·tail}
+use mathlib.Core.Bool.{Bool, true}
+use mathlib.Core.List.{List, [], _∷_}
 use Prim.Native.Nat.{ℕ, _≤_}
 use native.Mathlib.Omega.{arith}
 use lib.ListN.{length}
 use lib.Seq.{take-nil}
 use borrow.Author.Tests.{le-leb}
 use Rattle.linkfile.specs.Verdict.{Fault, sound, fault}
-use Rattle.linkfile.proofs.Passed.{sound-rules}
 use Rattle.ways.specs.Graph.{_∈_}
 use Rattle.ways.specs.Portions.{after, lastOr}
 use Rattle.ways.specs.Records.{recordOf, roomOf, written, cellsOf}
 use Rattle.ways.specs.Sizes.{recordSize}
-use Rattle.ways.proofs.Ordered.{ordered}
-use Rattle.ways.proofs.Portions.{lastOr-cases, ended-iff}
+use Rattle.ways.proofs.Portions.{lastOr-in, ended-iff}
 use Rattle.ways.proofs.Records.{chainOf-recordOf, true-isRecordIn}
 use Rattle.question.specs.declared.Question.{Question}
-use Rattle.question.specs.Admission.{next}
 use Rattle.question.specs.Asked.{askedFault}
-use Rattle.question.proofs.Leads.{next-rising}
 use Rattle.portion.specs.Listing.{Start, fresh, startsAfter, startFault, listingFor, portionFault, portionFor}
 use Rattle.portion.specs.Answers.{Answer, listed, refused, answerSaid}
 use Rattle.portion.specs.EndToEnd as portions
 use Rattle.portion.specs.EndToEnd.{Call, countOf, startBehind, LaidEndToEnd}
 use Rattle.portion.specs.declared.Answer as code
-use Rattle.portion.proofs.Starting.{asked-file}
+use Rattle.portion.proofs.Telling.{listing-rises, portion-in, sound-asked, listed-fits, listed-sound, listed-count, listed-ended, listed-last, refused-fault}
 use Rattle.portion.proofs.LaidEnd.{laid-end-to-end}
 use Rattle.held.specs.declared.Held.{Held}
 use Rattle.held.specs.Holding.{startOf, heldAfter, heldFor, MovedOn}
 use Rattle.held.specs.Calls.{Run, rests, moves, refusal, Quiet}
-use Rattle.held.proofs.Telling.{sound-asked, listed-in, listed-fits, listed-sound, listed-count, listed-ended, listed-last, refused-fault}
 
 module _ {file : List ℕ} {held held′ : Held} {out out′ : List ℕ} {answer : code.Answer} (m : MovedOn file held held′ out out′ answer) where
   -- a refusal leaves the held listing as it was
@@ -104,14 +98,6 @@ end-quiet {file} s (refusal m said r) =
     let on = end-quiet (subst (AtEnd file) (sym (refused-stays m said)) s) r in
     (on .0 ∙ refused-stays m said, on .1)
 
--- the last of some chains is one of them
-last-in : (c : List ℕ) (P : List (List ℕ)) → lastOr c P ∈ c ∷ P
-last-in c P = go (lastOr-cases c P)
-  where
-    go : (lastOr c P ≡ c) ⊎ (lastOr c P ∈ P) → lastOr c P ∈ c ∷ P
-    go (inl e) = List·Memᴰ·head e
-    go (inr m) = List·Memᴰ·tail m
-
 -- a call that answers ended leads there
 module _ {file : List ℕ} {held held′ : Held} {out out′ : List ℕ} {answer : code.Answer} {count : ℕ} (m : MovedOn file held held′ out out′ answer) (said : answerSaid answer ≡ listed count true) where
   ended-leads : AtEnd file held′
@@ -123,15 +109,14 @@ module _ {file : List ℕ} {held held′ : Held} {out out′ : List ℕ} {answer
       over : after (lastOr (startsAfter (startOf held)) (portionFor file (held .question) (startOf held) out)) (listingFor file (held .question)) ≡ []
       over =
           let q = held .question in
-          let rises = ordered (next file q) (next-rising (sound-rules file (asked-file file q (passed .0))) q) (q .from) (q .to) (q .hops) in
-          ended-iff (listingFor file q) rises (roomOf recordSize (length out)) (startsAfter (startOf held)) .0 (sym (listed-ended (m .portioned) said))
+          ended-iff (listingFor file q) (listing-rises file q (passed .0)) (roomOf recordSize (length out)) (startsAfter (startOf held)) .0 (sym (listed-ended (m .portioned) said))
 
       go : (P : List (List ℕ)) → portionFor file (held .question) (startOf held) out ≡ P → held′ ≡ heldAfter P held → after (lastOr (startsAfter (startOf held)) P) (listingFor file (held .question)) ≡ [] → AtEnd file held′
       go [] e k n = subst (AtEnd file) (sym k) (record { asked = passed .0; good = passed .1; none = n })
       go (c ∷ P) e k n =
           let last = lastOr c P in
-          let inside = subst (λ (l : List (List ℕ)). last ∈ l) (sym e) (last-in c P) in
-          let good = true-isRecordIn recordSize (recordOf recordSize last) (listed-in (m .portioned) said inside) refl in
+          let inside = subst (λ (l : List (List ℕ)). last ∈ l) (sym e) (lastOr-in c P) in
+          let good = true-isRecordIn recordSize (recordOf recordSize last) (portion-in file (held .question) (roomOf recordSize (length out)) (startsAfter (startOf held)) inside) refl in
           let back = chainOf-recordOf recordSize last (listed-fits (m .portioned) said last inside .some) in
           subst (AtEnd file) (sym k) (record { asked = passed .0; good = rw good; none = rw back n })
 

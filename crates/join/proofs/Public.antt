@@ -19,6 +19,7 @@ use Rattle.ways.specs.Graph.{Graph, _∈_}
 use Rattle.ways.specs.ByHops.{byHops}
 use Rattle.ways.specs.Halves.{halves}
 use Rattle.ways.specs.Sizes.{recordSize}
+use Rattle.ways.proofs.Cases.{lt-or-le}
 use Rattle.ways.proofs.Halves.{halves-exact, halves-ordered, halves-determined}
 use Rattle.compact.specs.Compact.{persons, graphOf, Compact}
 use Rattle.question.specs.declared.Question.{Question}
@@ -30,7 +31,6 @@ use Rattle.question.proofs.Leads.{next-none}
 use Rattle.join.specs.Lists.{halvesFor, chainsFor, roomFault, halvesFault, joinFault}
 use Rattle.join.specs.Answers.{Answered, Joins, Passed, halvesIn, JoinsIn}
 use Rattle.portion.specs.declared.Answer as code
-use Rattle.join.proofs.Cases.{lt-or-le}
 use Rattle.join.proofs.Standing.{low-persons}
 
 first-sound : (a b : Fault) → firstOf a b ≡ sound → a ≡ sound

@@ -1,48 +1,32 @@
 -- Demand 3 for the operation itself: any run of calls gives the listing end to end.
-use mathlib.Core.Path.{_≡_, refl, sym, ap, ap₂, subst, _∙_}
-use mathlib.Core.Logic.{_↔_, _⊎_, inl, inr}
-use mathlib.Core.Bool.{Bool, true, false}
-use mathlib.Core.List.{List, [], _∷_, _++_, List·Memᴰ·head, List·Memᴰ·tail}
-use Prim.Native.Nat.{ℕ, zero, suc, _+_, _*_, _-_, _<_, _≤_}
-use native.Mathlib.Nat.{zero-add}
+use mathlib.Core.Path.{_≡_, refl, sym, ap, ap₂, _∙_}
+use mathlib.Core.List.{List, [], _∷_, _++_}
+use Prim.Native.Nat.{ℕ, _+_, _*_, _≤_}
 use native.Mathlib.Omega.{arith}
 use lib.ListN.{length, take, drop}
 use lib.Seq.{take-at, take-add, drop-drop}
 use borrow.Author.Tests.{le-leb}
-use Rattle.linkfile.specs.Verdict.{Fault, sound, fault, unless}
+use Rattle.linkfile.specs.Verdict.{sound}
 use Rattle.linkfile.proofs.Passed.{sound-rules}
 use Rattle.ways.specs.Graph.{_∈_}
-use Rattle.ways.specs.Order.{Before, Rising}
-use Rattle.ways.specs.Portions.{after, portion, endedAfter, lastOr}
-use Rattle.ways.specs.Records.{Fits, recordOf, chainOf, cellsOf, written, roomOf, isRecordIn}
+use Rattle.ways.specs.Portions.{after, lastOr}
+use Rattle.ways.specs.Records.{cellsOf, written, roomOf}
 use Rattle.ways.specs.Sizes.{recordSize}
-use Rattle.ways.proofs.Portions.{lastOr-cases, after-portion, ended-iff, real-chains}
-use Rattle.ways.proofs.After.{after-from, after-all}
-use Rattle.ways.proofs.Members.{take-in}
-use Rattle.ways.proofs.Ordered.{ordered}
-use Rattle.ways.proofs.Records.{listing-fits, length-cellsOf, cellsOf-append, chainOf-recordOf, shaped-recordOf, isRecordIn-iff}
+use Rattle.ways.proofs.Portions.{after-portion, ended-iff, real-chains}
+use Rattle.ways.proofs.After.{after-all}
+use Rattle.ways.proofs.Records.{length-cellsOf, cellsOf-append}
 use Rattle.question.specs.declared.Question.{Question}
 use Rattle.question.specs.Asked.{askedFault}
 use Rattle.question.specs.Admission.{next}
 use Rattle.question.proofs.Leads.{next-rising}
-use Rattle.portion.specs.Listing.{listingFor, Start, fresh, after as following, startsAfter, startFault, portionFault, portionFor, endedFor}
-use Rattle.portion.specs.Answers.{Answer, listed, refused, answerSaid, answerFor, cellsFor, Portioned}
-use Rattle.portion.specs.EndToEnd.{Call, countOf, saysEnded, wrote, lastRecord, startBehind, Run, done, call, allWrote, allRoom, EndsRight, LaidEndToEnd}
+use Rattle.portion.specs.Listing.{listingFor, Start, fresh, startsAfter, startFault, portionFault, portionFor, endedFor}
+use Rattle.portion.specs.Answers.{Answer, listed, answerSaid, Portioned}
+use Rattle.portion.specs.EndToEnd.{Call, countOf, saysEnded, startBehind, Run, done, call, allWrote, allRoom, EndsRight, LaidEndToEnd}
 use Rattle.portion.specs.declared.Answer as code
-use Rattle.portion.proofs.Starting.{asked-file, asked-proper}
-use Rattle.portion.proofs.Records.{last-record}
+use Rattle.portion.proofs.Starting.{asked-file}
+use Rattle.portion.proofs.Telling.{listing-rises, listing-fit, portion-in, last-behind}
 
 module _ (file : List ℕ) (q : Question) (asked : askedFault file q ≡ sound) where
-  rises : Rising Before (listingFor file q)
-  rises = ordered (next file q) (next-rising (sound-rules file (asked-file file q asked)) q) (q .from) (q .to) (q .hops)
-
-  fits : (c : List ℕ) → c ∈ listingFor file q → Fits recordSize c
-  fits = listing-fits (next file q) (q .from) (q .to) (q .hops) recordSize (omega (arith, asked-proper file q asked .most))
-
-  -- the chains of a portion are chains of the listing
-  portion-in : (r : ℕ) (b : List ℕ) {c : List ℕ} → c ∈ portion r b (listingFor file q) → c ∈ listingFor file q
-  portion-in r b m = after-from b (listingFor file q) (take-in r (after b (listingFor file q)) m) .0
-
   -- what a call that is not refused says and writes
   passes : (start : Start) (out : List ℕ) → startFault (listingFor file q) start ≡ sound → recordSize ≤ length out → portionFault file q start out ≡ sound
   unfolding portionFault
@@ -57,7 +41,7 @@ module _ (file : List ℕ) (q : Question) (asked : askedFault file q ≡ sound) 
 
     wrote-cells : take (countOf (answerSaid answer) * recordSize) exit ≡ cellsOf recordSize (portionFor file q start out)
     unfolding written
-    wrote-cells = rw (said, exits) (take-at (cellsOf recordSize (portionFor file q start out)) (drop (length (portionFor file q start out) * recordSize) out) (length (portionFor file q start out) * recordSize) (length-cellsOf recordSize (portionFor file q start out) (λ c m. fits c (portion-in (roomOf recordSize (length out)) (startsAfter start) m))))
+    wrote-cells = rw (said, exits) (take-at (cellsOf recordSize (portionFor file q start out)) (drop (length (portionFor file q start out) * recordSize) out) (length (portionFor file q start out) * recordSize) (length-cellsOf recordSize (portionFor file q start out) (λ c m. listing-fit file q asked c (portion-in file q (roomOf recordSize (length out)) (startsAfter start) m))))
 
   -- the next start is behind the last chain written
   record Behind (start : Start) (b : List ℕ) : Type 0 where
@@ -67,20 +51,7 @@ module _ (file : List ℕ) (q : Question) (asked : askedFault file q ≡ sound) 
   behind : (start : Start) (P : List (List ℕ)) (rest : List ℕ) → startFault (listingFor file q) start ≡ sound → ((c : List ℕ) → c ∈ P → c ∈ listingFor file q)
       → Behind (startBehind start (length P) (cellsOf recordSize P ++ rest)) (lastOr (startsAfter start) P)
   behind start [] rest s inside = record { mark = refl; passing = s }
-  behind start (c ∷ P) rest s inside =
-      let last = last-record recordSize c P rest (λ d m. fits d (inside d m)) in
-      let same : length P ≡ suc (length P) - 1 = omega arith in
-      let member : lastOr c P ∈ listingFor file q = inside (lastOr c P) (in-cons (lastOr-cases c P)) in
-      let fit = fits (lastOr c P) member in
-      let back = chainOf-recordOf recordSize (lastOr c P) (fit .some) in
-      record {
-        mark = rw (← same, last) back;
-        passing = rw (← same, last, isRecordIn-iff recordSize (listingFor file q) (recordOf recordSize (lastOr c P)) fits .1 (shaped-recordOf recordSize (lastOr c P) fit, subst (λ d. d ∈ listingFor file q) (sym back) member));
-      }
-    where
-      in-cons : (lastOr c P ≡ c) ⊎ (lastOr c P ∈ P) → lastOr c P ∈ c ∷ P
-      in-cons (inl e) = List·Memᴰ·head e
-      in-cons (inr m) = List·Memᴰ·tail m
+  behind start (c ∷ P) rest s inside = let b = last-behind file q asked (startsAfter start) (c ∷ P) rest (omega arith) inside in record { mark = b .mark; passing = b .passing }
 
   -- n chains were handed over before the run starts
   run-laid : (calls : List Call) (start : Start) (n : ℕ) → startFault (listingFor file q) start ≡ sound → after (startsAfter start) (listingFor file q) ≡ drop n (listingFor file q) → Run file q start calls
@@ -92,11 +63,11 @@ module _ (file : List ℕ) (q : Question) (asked : askedFault file q ≡ sound) 
       let P = portionFor file q start (c .out) in
       let none = passes start (c .out) s h in
       let is = said p none in
-      let on = behind start P (drop (length P * recordSize) (c .out)) s (λ d m. portion-in room (startsAfter start) m) in
-      let left : after (lastOr (startsAfter start) P) (listingFor file q) ≡ drop (n + room) (listingFor file q) = after-portion (listingFor file q) rises (startsAfter start) room ∙ ap (drop room) at ∙ drop-drop room n (listingFor file q) in
+      let on = behind start P (drop (length P * recordSize) (c .out)) s (λ d m. portion-in file q room (startsAfter start) m) in
+      let left : after (lastOr (startsAfter start) P) (listingFor file q) ≡ drop (n + room) (listingFor file q) = after-portion (listingFor file q) (listing-rises file q asked) (startsAfter start) room ∙ ap (drop room) at ∙ drop-drop room n (listingFor file q) in
       let rest = run-laid calls (startBehind start (length P) (cellsOf recordSize P ++ drop (length P * recordSize) (c .out))) (n + room) (on .passing) (ap (λ (b : List ℕ). after b (listingFor file q)) (on .mark) ∙ left) (rw (is, exits p none) at r) in
       let whole : take room (drop n (listingFor file q)) ++ take (allRoom calls) (drop (n + room) (listingFor file q)) ≡ take (room + allRoom calls) (drop n (listingFor file q)) = rw (take-add room (allRoom calls) (drop n (listingFor file q)), drop-drop room n (listingFor file q)) in
-      let ended = ended-iff (listingFor file q) rises room (startsAfter start) in (
+      let ended = ended-iff (listingFor file q) (listing-rises file q asked) room (startsAfter start) in (
         ap₂ _++_ (wrote-cells p none ∙ ap (λ (l : List (List ℕ)). cellsOf recordSize (take room l)) at) (rest .0)
             ∙ sym (cellsOf-append recordSize (take room (drop n (listingFor file q))) (take (allRoom calls) (drop (n + room) (listingFor file q))))
             ∙ ap (cellsOf recordSize) whole,
