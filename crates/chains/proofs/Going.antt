@@ -1,27 +1,26 @@
 -- Going on by a portion: what was to come is its lines, and what is to come after it.
 use mathlib.Core.Path.{_≡_, refl, sym, ap, subst, _∙_}
-use mathlib.Core.Bool.{Bool, true, false}
+use mathlib.Core.Bool.{Bool, true, false, true≢false}
 use mathlib.Core.List.{List, _++_, append-assoc}
-use Prim.Native.Nat.{ℕ, _+_, _-_, _*_, _^_, _≤_, _<_}
+use Prim.Native.Nat.{ℕ, _+_, _*_, _^_, _≤_, _<_}
 use native.Mathlib.Omega.{arith}
 use native.Mathlib.Nat.{lt-of-le-of-lt}
 use borrow.Author.Tests.{le-leb, leb-true, leb-false}
 use lib.ListN.{length, take, drop, length-take, length-drop, take-append-drop}
 use lib.Seq.{take-all, length-take-le}
 use Rattle.linkfile.specs.Verdict.{Fault, sound, fault, firstOf}
-use Rattle.ways.specs.Graph.{_∈_}
 use Rattle.ways.specs.Portions.{after, lastOr}
-use Rattle.ways.specs.Records.{Fits, cellsOf, written, roomOf}
+use Rattle.ways.specs.Records.{cellsOf, written, roomOf}
 use Rattle.ways.specs.Sizes.{recordSize}
 use Rattle.ways.proofs.Portions.{after-portion}
-use Rattle.ways.proofs.Records.{length-written}
 use Rattle.question.specs.declared.Question.{Question}
 use Rattle.question.specs.Asked.{askedFault}
 use Rattle.portion.specs.Listing.{listingFor, Start, bookmarked, startSaid, startsAfter, portionFault, portionFor, endedFor}
 use Rattle.portion.specs.Answers.{Answer, listed, refused, answerSaid, answerFor, Portioned}
 use Rattle.portion.specs.EndToEnd.{lastRecord}
 use Rattle.portion.specs.declared.Answer as code
-use Rattle.portion.proofs.Known.{portion-in, fresh-all, rises, fits, Kept, last-kept}
+use Rattle.portion.proofs.Known.{portion-in, fresh-all, rises, Kept, last-kept}
+use Rattle.portion.proofs.Telling.{listed-asked, listed-fits, listed-count, listed-ended, listed-cells, listed-length}
 use Rattle.text.specs.Decimal.{worth, Digits}
 use Rattle.text.specs.Lines.{chainLines, chainsAt, endLine, refusalLine, Records}
 use Rattle.text.proofs.Lining.{lines-append}
@@ -39,9 +38,6 @@ count-same e = cc
 
 ended-same : {m n : ℕ} {a b : Bool} → listed m a ≡ listed n b → a ≡ b
 ended-same e = cc
-
-true-false : true ≡ false → ⊥
-true-false e = let z : _≡_ {A = ℕ} 0 1 = cc in omega arith
 
 same-count : {cells : List ℕ} {m n : ℕ} {a b : Bool} → listed m a ≡ listed n b → Records cells m → Records cells n
 same-count {cells} e r = subst (λ (count : ℕ). Records cells count) (count-same e) r
@@ -67,37 +63,24 @@ module _ {file : List ℕ} {q : Question} {start : Start} {bookmark counted cell
         text {r} {at} (fault number place) e = let a : number ≡ r = cc in let b : place ≡ at = cc in rw (a, b)
 
     module _ {count : ℕ} {ended : Bool} (is : answer ≡ code.the-variants.Listed count ended) where
+      said : answerSaid answer ≡ listed count ended
+      said = ap answerSaid is
+
       way-asked : askedFault file q ≡ sound
-      way-asked = go (askedFault file q) (sym (ap answerSaid is) ∙ p .answers ∙ rw way-fault)
-        where
-          go : (f : Fault) → listed count ended ≡ answerFor (firstOf f sound) (length (portionFor file q start cells)) (endedFor file q start cells) → f ≡ sound
-          go sound e = refl
-          go (fault r at) e = let z : _≡_ {A = ℕ} 0 1 = cc in absurd (omega arith)
-
-      way-none : portionFault file q start cells ≡ sound
-      way-none = rw (way-fault, way-asked)
-
-      way-said : listed count ended ≡ listed (length (portionFor file q start cells)) (endedFor file q start cells)
-      way-said = sym (ap answerSaid is) ∙ p .answers ∙ rw way-none
+      way-asked = listed-asked p said
 
       pub way-many : count ≡ length (portionFor file q start cells)
-      way-many = let e = way-said in cc
-
-      way-ended : ended ≡ endedFor file q start cells
-      way-ended = let e = way-said in cc
+      way-many = listed-count p said
 
       way-cells : cells′ ≡ cellsOf recordSize (portionFor file q start cells) ++ drop (length (portionFor file q start cells) * recordSize) cells
       unfolding written
-      way-cells = p .cells ∙ rw way-none
-
-      way-fits : (c : List ℕ) → c ∈ portionFor file q start cells → Fits recordSize c
-      way-fits c m = fits file q way-asked c (portion-in file q start cells m)
+      way-cells = listed-cells p said
 
       pub way-records : Records cells′ count
-      way-records = rw (way-many, way-cells) (records-written (portionFor file q start cells) (drop (length (portionFor file q start cells) * recordSize) cells) way-fits)
+      way-records = rw (way-many, way-cells) (records-written (portionFor file q start cells) (drop (length (portionFor file q start cells) * recordSize) cells) (listed-fits p said))
 
       way-chains : chainsAt cells′ 0 count ≡ portionFor file q start cells
-      way-chains = rw (way-many, way-cells) (chains-written (portionFor file q start cells) (drop (length (portionFor file q start cells) * recordSize) cells) way-fits)
+      way-chains = rw (way-many, way-cells) (chains-written (portionFor file q start cells) (drop (length (portionFor file q start cells) * recordSize) cells) (listed-fits p said))
 
       -- forty digits are enough
       pub way-counts : Digits counted × (worth counted + count < 10 ^ 40)
@@ -105,25 +88,16 @@ module _ {file : List ℕ} {q : Question} {start : Start} {bookmark counted cell
           let few = length-take (roomOf recordSize (length cells)) (rest file q start) in
           (k .digits, lt-of-le-of-lt (omega (arith, way-many, few, k .sum)) (count-fits file q way-asked))
 
-      way-few : length (portionFor file q start cells) ≤ roomOf recordSize (length cells)
-      way-few = omega (arith, length-take (roomOf recordSize (length cells)) (rest file q start))
-
-      way-length : length cells′ ≡ length cells
-      way-length =
-          let out : cells′ ≡ written recordSize (portionFor file q start cells) cells = p .cells ∙ rw way-none in
-          ap length out
-          ∙ length-written recordSize (portionFor file q start cells) cells way-fits (omega (arith, way-few))
-
       -- where more follow, the portion fills its room
       way-more : ended ≡ false → roomOf recordSize (length cells) < length (rest file q start)
-      way-more e = leb-false (length (rest file q start)) (roomOf recordSize (length cells)) (sym way-ended ∙ e)
+      way-more e = leb-false (length (rest file q start)) (roomOf recordSize (length cells)) (sym (listed-ended p said) ∙ e)
 
       way-full : ended ≡ false → length (portionFor file q start cells) ≡ roomOf recordSize (length cells)
       way-full e = let more = way-more e in length-take-le (roomOf recordSize (length cells)) (rest file q start) (omega arith)
 
       -- there is a last one
       pub way-last : ended ≡ false → (1 ≤ count) × (count * recordSize ≤ length cells′)
-      way-last e = (omega (arith, way-many, way-full e, k .room), omega (arith, way-many, way-full e, way-length))
+      way-last e = (omega (arith, way-many, way-full e, k .room), omega (arith, way-many, way-full e, listed-length p said))
 
       module _ {counted′ : List ℕ} (d : Digits counted′) (w : worth counted′ ≡ worth counted + count) where
         -- the last portion
@@ -131,13 +105,13 @@ module _ {file : List ℕ} {q : Question} {start : Start} {bookmark counted cell
         way-ends bookmark′ e =
             let room = roomOf recordSize (length cells) in
             let R = rest file q start in
-            let whole : take room R ≡ R = take-all room R (leb-true (length R) room (sym way-ended ∙ e)) in
+            let whole : take room R ≡ R = take-all room R (leb-true (length R) room (sym (listed-ended p said) ∙ e)) in
             let all : worth counted′ ≡ worth counted + length R = w ∙ ap (λ (n : ℕ). worth counted + n) (way-many ∙ ap length whole) in
             record {
               refuses = λ x. absurd (differ (sym x));
               lists = λ x. same-count x way-records;
               ends = λ x. (d, rw (← count-same x, way-asked, way-chains, whole, all));
-              goes = λ x. absurd (true-false (sym e ∙ ended-same x));
+              goes = λ x. absurd (true≢false (sym e ∙ ended-same x));
             }
 
         -- any other
@@ -158,9 +132,9 @@ module _ {file : List ℕ} {q : Question} {start : Start} {bookmark counted cell
             record {
               refuses = λ x. absurd (differ (sym x));
               lists = λ x. same-count x way-records;
-              ends = λ x. absurd (true-false (sym (ended-same x) ∙ e));
+              ends = λ x. absurd (true≢false (sym (ended-same x) ∙ e));
               goes = λ x. (
-                record { digits = d; room = omega (arith, way-length, k .room); whole = on .whole; passing = on .passing; sum = rw left (same ∙ k .sum) },
+                record { digits = d; room = omega (arith, listed-length p said, k .room); whole = on .whole; passing = on .passing; sum = rw left (same ∙ k .sum) },
                 rw (← count-same x, way-asked, way-chains, left, same) (ap (λ (t : List ℕ). t ++ endLine (worth counted + length R)) parts ∙ append-assoc (chainLines P) (chainLines (drop room R)) (endLine (worth counted + length R))),
                 omega (arith, count-same x, way-last e .0),
               );

@@ -1,2 +1,3 @@
 -- Laws of the compact graph.
 pub mod Rows
+pub mod Marking

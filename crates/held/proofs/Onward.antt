@@ -12,7 +12,7 @@ use Rattle.ways.specs.Graph.{_∈_}
 use Rattle.ways.specs.Portions.{after, lastOr}
 use Rattle.ways.specs.Records.{roomOf, written, cellsOf}
 use Rattle.ways.specs.Sizes.{recordSize}
-use Rattle.ways.proofs.Portions.{ended-iff}
+use Rattle.ways.proofs.Portions.{lastOr-in, ended-iff}
 use Rattle.question.specs.declared.Question.{Question}
 use Rattle.question.specs.Asked.{askedFault}
 use Rattle.portion.specs.Listing.{Start, fresh, startsAfter, startFault, listingFor, portionFault, portionFor}
@@ -20,12 +20,12 @@ use Rattle.portion.specs.Answers.{Answer, listed, refused, answerSaid}
 use Rattle.portion.specs.EndToEnd as portions
 use Rattle.portion.specs.EndToEnd.{Call, countOf, startBehind, LaidEndToEnd}
 use Rattle.portion.specs.declared.Answer as code
-use Rattle.portion.proofs.Known.{last-in, portion-in, rises, passes, kept}
+use Rattle.portion.proofs.Known.{portion-in, rises, passes, kept}
 use Rattle.portion.proofs.LaidEnd.{laid-end-to-end}
 use Rattle.held.specs.declared.Held.{Held}
 use Rattle.held.specs.Holding.{startOf, heldAfter, heldFor, MovedOn}
 use Rattle.held.specs.Calls.{Run, rests, moves, refusal, Quiet}
-use Rattle.held.proofs.Telling.{sound-asked, listed-sound, listed-count, listed-ended, listed-last, refused-fault}
+use Rattle.portion.proofs.Telling.{sound-asked, listed-sound, listed-count, listed-ended, listed-last, refused-fault}
 
 module _ {file : List ℕ} {held held′ : Held} {out out′ : List ℕ} {answer : code.Answer} (m : MovedOn file held held′ out out′ answer) where
   -- a refusal leaves the held listing as it was
@@ -115,7 +115,7 @@ module _ {file : List ℕ} {held held′ : Held} {out out′ : List ℕ} {answer
       go [] e k n = subst (AtEnd file) (sym k) (record { asked = passed .0; good = passed .1; none = n })
       go (c ∷ P) e k n =
           let last = lastOr c P in
-          let inside = subst (λ (l : List (List ℕ)). last ∈ l) (sym e) (last-in c P) in
+          let inside = subst (λ (l : List (List ℕ)). last ∈ l) (sym e) (lastOr-in c P) in
           let bookmark = kept file (held .question) (passed .0) last (portion-in file (held .question) (startOf held) out inside) in
           subst (AtEnd file) (sym k) (record { asked = passed .0; good = bookmark .passing; none = rw (bookmark .mark) n })
 

@@ -1,88 +1,17 @@
--- What the answer of a portion tells of the held listing: which case of its promise holds, and where the last record stands.
-use mathlib.Core.Path.{_≡_, refl, sym, ap, subst, _∙_}
-use mathlib.Core.Bool.{Bool, true, false}
+-- What the answer of a portion tells of the held listing: which case of its promise holds.
+use mathlib.Core.Path.{_≡_, refl, ap, subst, _∙_}
+use mathlib.Core.Bool.{Bool}
 use mathlib.Core.List.{List, [], _∷_}
-use Prim.Native.Nat.{ℕ, _+_, _-_, _*_, _≤_, _<_}
+use Prim.Native.Nat.{ℕ, _≤_, _<_}
 use native.Mathlib.Omega.{arith}
-use lib.ListN.{length, drop, length-take}
-use lib.Dec.{leb}
-use Rattle.linkfile.specs.Verdict.{Fault, sound, fault, unless, firstOf}
-use Rattle.ways.specs.Graph.{_∈_}
-use Rattle.ways.specs.Portions.{after, lastOr}
-use Rattle.ways.specs.Records.{recordOf, Fits, roomOf, written}
-use Rattle.ways.specs.Sizes.{recordSize}
-use Rattle.ways.proofs.Records.{length-written, room-within}
-use Rattle.question.specs.declared.Question.{Question}
-use Rattle.question.specs.Asked.{askedFault}
-use Rattle.portion.specs.Listing.{Start, startsAfter, startFault, listingFor, portionFault, portionFor, endedFor}
-use Rattle.portion.specs.Answers.{listed, refused, answerSaid, answerFor, Portioned}
+use lib.ListN.{length}
+use Rattle.portion.specs.Listing.{portionFor}
+use Rattle.portion.specs.Answers.{answerSaid, Portioned}
 use Rattle.portion.specs.declared.Answer as code
 use Rattle.portion.specs.EndToEnd.{lastRecord}
-use Rattle.portion.proofs.Known.{portion-in, fits}
-use Rattle.portion.proofs.Records.{last-record}
+use Rattle.portion.proofs.Telling.{listed-sound, listed-count, listed-last, refused-fault}
 use Rattle.held.specs.declared.Held.{Held}
 use Rattle.held.specs.Holding.{startOf, heldAfter, MovedOn}
-
-module _ (file : List ℕ) (q : Question) where
-  -- a portion that is not refused has a file, a question and a start that pass
-  pub sound-asked : (start : Start) (out : List ℕ) → portionFault file q start out ≡ sound → (askedFault file q ≡ sound) × (startFault (listingFor file q) start ≡ sound)
-  unfolding portionFault
-  sound-asked start out e = go (askedFault file q) (leb recordSize (length out)) (startFault (listingFor file q) start) e
-    where
-      go : (a : Fault) (t : Bool) (b : Fault) → firstOf a (unless t 16 0 b) ≡ sound → (a ≡ sound) × (b ≡ sound)
-      go sound true b e = (refl, e)
-      go sound false b e = let z : _≡_ {A = ℕ} 0 1 = cc in absurd (omega arith)
-      go (fault number place) t b e = let z : _≡_ {A = ℕ} 0 1 = cc in absurd (omega arith)
-
--- what the answer tells of the portion
-module _ {file : List ℕ} {q : Question} {start : Start} {out out′ : List ℕ} {answer : code.Answer} (p : Portioned file q start out out′ answer) where
-  module _ {count : ℕ} {ended : Bool} (said : answerSaid answer ≡ listed count ended) where
-    pub listed-sound : portionFault file q start out ≡ sound
-    listed-sound = go (portionFault file q start out) (sym said ∙ p .answers)
-      where
-        go : (f : Fault) → listed count ended ≡ answerFor f (length (portionFor file q start out)) (endedFor file q start out) → f ≡ sound
-        go sound e = refl
-        go (fault number place) e = let z : _≡_ {A = ℕ} 0 1 = cc in absurd (omega arith)
-
-    -- the chains have records
-    listed-fits : (c : List ℕ) → c ∈ portionFor file q start out → Fits recordSize c
-    listed-fits c m = fits file q (sound-asked file q start out listed-sound .0) c (portion-in file q start out m)
-
-    -- there is room for the chains
-    room : length (portionFor file q start out) * recordSize ≤ length out
-    room = omega (arith, length-take (roomOf recordSize (length out)) (after (startsAfter start) (listingFor file q)), room-within recordSize (length out))
-
-    told : listed count ended ≡ listed (length (portionFor file q start out)) (endedFor file q start out)
-    told = sym said ∙ rw listed-sound at (p .answers)
-
-    pub listed-count : count ≡ length (portionFor file q start out)
-    listed-count = let e = told in cc
-
-    pub listed-ended : ended ≡ endedFor file q start out
-    listed-ended = let e = told in cc
-
-    listed-cells : out′ ≡ written recordSize (portionFor file q start out) out
-    listed-cells = rw listed-sound at (p .cells)
-
-    -- the last record stands in the output
-    pub last-within : 0 < count → (count - 1) * recordSize + recordSize ≤ length out′
-    last-within some =
-        let e = listed-count in
-        let l : length out′ ≡ length out = ap length listed-cells ∙ length-written recordSize (portionFor file q start out) out listed-fits room in
-        omega (arith, room)
-
-    pub listed-last : (c : List ℕ) (chains : List (List ℕ)) → portionFor file q start out ≡ c ∷ chains → lastRecord count out′ ≡ recordOf recordSize (lastOr c chains)
-    unfolding written
-    listed-last c chains e =
-        let n : count - 1 ≡ length chains = omega (arith, listed-count, ap length e) in
-        rw (n, listed-cells, e) (last-record recordSize c chains (drop (length (c ∷ chains) * recordSize) out) (λ d m. listed-fits d (subst (λ l. d ∈ l) (sym e) m)))
-
-  pub refused-fault : {number place : ℕ} → answerSaid answer ≡ refused number place → portionFault file q start out ≡ fault number place
-  refused-fault {number} {place} said = go (portionFault file q start out) (sym said ∙ p .answers)
-    where
-      go : (f : Fault) → refused number place ≡ answerFor f (length (portionFor file q start out)) (endedFor file q start out) → f ≡ fault number place
-      go sound e = let z : _≡_ {A = ℕ} 0 1 = cc in absurd (omega arith)
-      go (fault n o) e = cc
 
 -- the held listing's promise, by the case that the answer tells
 module _ {file : List ℕ} {held : Held} {out out′ : List ℕ} {answer : code.Answer} (p : Portioned file (held .question) (startOf held) out out′ answer) where

@@ -2,36 +2,37 @@
 use mathlib.Core.Path.{_≡_, refl, sym, ap, subst, _∙_}
 use mathlib.Core.Bool.{Bool, true, false, cond}
 use mathlib.Core.List.{List, [], _∷_, _++_, map, map-append}
-use mathlib.Core.Logic.{_≢_, ⊎-elim}
-use Prim.Native.Nat.{ℕ, zero, suc, _+_, _*_, _/_, _≤_, _<_}
+use mathlib.Core.Logic.{⊎-elim}
+use Prim.Native.Nat.{ℕ, zero, suc, _+_, _*_, _/_, _≤_}
 use lib.ListN.{length, getD, set, take, replicate, length-set, length-replicate}
 use lib.Seq.{take-all}
 use lib.Dec.{eqb, ltb, leb}
 use native.Mathlib.Omega.{arith}
-use borrow.Author.Tests.{eq-eqb, lt-ltb, le-ltb, le-leb, lt-leb}
-use Rattle.linkfile.specs.Verdict.{Fault, sound, fault}
-use Rattle.ways.specs.Graph.{Graph, _∈_, keep}
+use borrow.Author.Tests.{lt-ltb, le-ltb, le-leb, lt-leb}
+use Rattle.ways.specs.Graph.{_∈_, keep}
 use Rattle.ways.specs.Listing.{ways, listing}
 use Rattle.ways.specs.Records.{recordOf, Fits, written}
 use Rattle.ways.specs.ByHops.{shorterFirst, chainsOf, byHops}
-use Rattle.ways.specs.Halves.{halfChains, halves}
+use Rattle.ways.specs.Halves.{halfChains}
 use Rattle.ways.specs.Join.{leftHops, rightHops, joined}
 use Rattle.ways.specs.Sizes.{recordSize}
+use Rattle.ways.proofs.Cases.{lt-or-le}
 use Rattle.ways.proofs.Records.{listing-fits}
 use Rattle.ways.proofs.ByHops.{byHops-iff}
 use Rattle.ways.proofs.Join.{join, join-all, right-within}
-use Rattle.compact.specs.Compact.{persons, graphOf, Compact}
-use Rattle.join.specs.Lists.{halvesFault}
-use Rattle.portion.specs.Answers.{answerSaid, answerFor, cellsFor}
-use Rattle.join.specs.Answers.{Answered, Passed, halvesIn, JoinsIn}
-use Rattle.join.specs.Pages.{Page, page, emits, recordWith}
-use Rattle.join.specs.Walks.{rightsOf, Indexed}
-use Rattle.join.specs.Shelf.{Ended, blank, nothing, halvesBefore, placesAtMost, Shelve, Shelved, fromOne, waysOf, Gather, Gathered}
+use Rattle.compact.specs.Compact.{persons, graphOf}
+use Rattle.compact.specs.Marks.{Marked}
+use Rattle.compact.proofs.Marking.{nobody, marked-more}
+use Rattle.pages.specs.Pages.{Page, emits, blank, recordWith}
+use Rattle.join.specs.Answers.{Passed, halvesIn, JoinsIn}
+use Rattle.join.specs.Pages.{page}
+use Rattle.join.specs.Walks.{rightsOf}
+use Rattle.join.specs.Shelf.{Ended, nothing, halvesBefore, placesAtMost, Shelve, Shelved, fromOne, waysOf, Gather, Gathered}
 use Rattle.portion.specs.declared.Answer as code
 use Rattle.join.specs.declared.extend.Found.{Found}
-use Rattle.join.proofs.Cases.{lt-or-le}
-use Rattle.join.proofs.Meeting.{Marked, nobody, marked-more, meet-all}
-use Rattle.join.proofs.Recording.{records-blank, records-first, emits-cells, emits-noted, emits-written}
+use Rattle.join.proofs.Meeting.{meet-all}
+use Rattle.pages.proofs.Recording.{records-blank, records-first}
+use Rattle.pages.proofs.Handing.{emits-cells, emits-noted, emits-written}
 use Rattle.join.proofs.Standing.{rights-ending, indexed-ending, low-persons, all-halves, all-fit, rights-index, indexed-halves}
 
 -- From is marked

@@ -1,10 +1,8 @@
 -- Laws of this room: one file for each of its steps, from a cell that is copied to the answer.
-pub mod Cases
 pub mod Writing
 pub mod Steps
 pub mod Shelving
 pub mod Meeting
-pub mod Recording
 pub mod Standing
 pub mod Face
 pub mod Public

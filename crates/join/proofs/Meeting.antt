@@ -1,24 +1,22 @@
 -- The ways on by marks are those of the definitions by persons seen: half chains, and left halves with the right halves that they meet.
 use mathlib.Core.Path.{_≡_, refl, sym, ap, _∙_}
 use mathlib.Core.Bool.{Bool, true, false, cond}
-use mathlib.Core.List.{List, [], _∷_, _++_, map, flatMap, map-map, map-append, append-nil, append-assoc, List·Memᴰ·head, List·Memᴰ·tail}
-use mathlib.Core.Logic.{⊎-elim}
-use Prim.Native.Nat.{ℕ, zero, suc, _+_, _≤_, _<_}
-use lib.ListN.{length, getD, set, replicate, length-set, length-replicate, getD-replicate, List·getD-eq-default}
-use lib.Seq.{getD-set-same, getD-set-other, append-snoc}
+use mathlib.Core.List.{List, [], _∷_, _++_, map, flatMap, map-map, map-append, append-nil, List·Memᴰ·head, List·Memᴰ·tail}
+use Prim.Native.Nat.{ℕ, zero, suc, _+_, _<_}
+use lib.ListN.{getD, set}
+use lib.Seq.{append-snoc}
 use lib.Dec.{eqb}
-use native.Mathlib.Omega.{arith}
-use borrow.Author.Tests.{eq-eqb, ne-eqb}
-use Rattle.ways.specs.Graph.{Graph, _∈_, among, keep}
+use Rattle.ways.specs.Graph.{_∈_, among, keep}
 use Rattle.ways.specs.Chain.{Last}
 use Rattle.ways.specs.Portions.{lastOr}
-use Rattle.ways.specs.Join.{onward, leftHalves, noneAmong, meets, glue, leftHops, rightHops, joined}
-use Rattle.ways.specs.Halves.{halfChains}
+use Rattle.ways.specs.Join.{onward, leftHalves, noneAmong, meets, glue}
+use Rattle.ways.proofs.Members.{flatMap-append}
 use Rattle.ways.proofs.Cut.{last-lastOr, last-snoc}
 use Rattle.compact.specs.Compact.{persons, graphOf, Compact}
+use Rattle.compact.specs.Marks.{Marked}
 use Rattle.compact.proofs.Rows.{row-people}
+use Rattle.compact.proofs.Marking.{marked-more}
 use Rattle.join.specs.Walks.{clear, following, taking}
-use Rattle.join.proofs.Cases.{same-or-not, lt-or-le}
 
 -- ---- rows in parts
 
@@ -28,16 +26,11 @@ module _ {A B : Type 0} where
   flatMap-same f h [] e = refl
   flatMap-same f h (x ∷ l) e = rw (e x (List·Memᴰ·head refl), flatMap-same f h l (λ y m. e y (List·Memᴰ·tail m)))
 
-  flatMap-joins : (f : A → List B) (l m : List A) → flatMap f (l ++ m) ≡ flatMap f l ++ flatMap f m
-  unfolding flatMap
-  flatMap-joins f [] m = refl
-  flatMap-joins f (x ∷ l) m = rw (flatMap-joins f l m, append-assoc)
-
 module _ {A B C : Type 0} where
   flatMap-flatMap : (f : B → List C) (h : A → List B) (l : List A) → flatMap f (flatMap h l) ≡ flatMap (λ x. flatMap f (h x)) l
   unfolding flatMap
   flatMap-flatMap f h [] = refl
-  flatMap-flatMap f h (x ∷ l) = flatMap-joins f (h x) (flatMap h l) ∙ ap (λ (m : List C). flatMap f (h x) ++ m) (flatMap-flatMap f h l)
+  flatMap-flatMap f h (x ∷ l) = flatMap-append f (h x) (flatMap h l) ∙ ap (λ (m : List C). flatMap f (h x) ++ m) (flatMap-flatMap f h l)
 
   flatMap-map : (f : B → List C) (h : A → B) (l : List A) → flatMap f (map h l) ≡ flatMap (λ x. f (h x)) l
   unfolding flatMap
@@ -50,26 +43,6 @@ module _ {A B C : Type 0} where
   map-flatMap f h (x ∷ l) = rw (map-append, map-flatMap f h l)
 
 -- ---- marks
-
--- the marks are those of the persons seen
-pub record Marked (marks : List Bool) (seen : List ℕ) : Type 0 where
-  pub wide : length marks ≡ persons
-  pub each : (v : ℕ) → getD marks v false ≡ among v seen
-
-pub nobody : Marked (replicate persons false) []
-unfolding among
-nobody = record { wide = length-replicate persons false; each = λ v. ⊎-elim (λ l. getD-replicate persons v false false l) (λ l. List·getD-eq-default (replicate persons false) false {n = v} (rw (length-replicate persons false) l)) (lt-or-le v persons) }
-
-pub marked-more : {marks : List Bool} {seen : List ℕ} (v : ℕ) → v < persons → Marked marks seen → Marked (set marks v true) (v ∷ seen)
-unfolding among
-marked-more {marks} {seen} v h m = record {
-  wide = length-set marks v true ∙ m .wide;
-  each = λ u.
-      ⊎-elim
-      (λ e. rw (eq-eqb u v e, e) (getD-set-same marks v true false (omega (arith, m .wide))))
-      (λ ne. rw (ne-eqb u v ne) (getD-set-other marks v u true false ne ∙ m .each u))
-      (same-or-not u v);
-}
 
 -- nobody marked, nobody among those seen
 clear-none : {marks : List Bool} {seen : List ℕ} → Marked marks seen → (w : List ℕ) → clear marks w ≡ noneAmong w seen

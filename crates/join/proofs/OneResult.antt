@@ -5,9 +5,8 @@ use mathlib.Core.Logic.{_↔_}
 use mathlib.Core.List.{List}
 use Prim.Native.Nat.{ℕ}
 use native.Mathlib.Omega.{arith}
-use lib.ListN.{length, take}
+use lib.ListN.{length}
 use lib.Seq.{take-all}
-use lib.Dec.{leb}
 use borrow.Author.Tests.{leb-true}
 use Rattle.linkfile.specs.Verdict.{Fault, sound, fault}
 use Rattle.ways.specs.Graph.{_∈_}
@@ -17,17 +16,11 @@ use Rattle.ways.specs.Sizes.{recordSize}
 use Rattle.ways.proofs.ByHops.{byHops-iff}
 use Rattle.question.specs.declared.Question.{Question}
 use Rattle.question.specs.Admission.{next}
-use Rattle.join.specs.Lists.{halvesFor, chainsFor, joinFault, firstOnes, allFit}
-use Rattle.portion.specs.Answers.{Answer, listed, refused, answerSaid, answerFor, cellsFor}
+use Rattle.join.specs.Lists.{chainsFor, joinFault, firstOnes, allFit}
+use Rattle.portion.specs.Answers.{Answer, listed, answerFor, cellsFor}
 use Rattle.join.specs.Answers.{Joins}
 use Rattle.portion.specs.declared.Answer as code
-
--- what an answer says tells which answer it is
-answer-said : (a b : code.Answer) → answerSaid a ≡ answerSaid b → a ≡ b
-answer-said (code.the-variants.Listed n e) (code.the-variants.Listed m f) h = cc
-answer-said (code.the-variants.Refused number place) (code.the-variants.Refused other there) h = cc
-answer-said (code.the-variants.Listed n e) (code.the-variants.Refused number place) h = let z : _≡_ {A = ℕ} 0 1 = cc in absurd (omega arith)
-answer-said (code.the-variants.Refused number place) (code.the-variants.Listed n e) h = let z : _≡_ {A = ℕ} 0 1 = cc in absurd (omega arith)
+use Rattle.portion.proofs.OneResult.{answer-said}
 
 pub join-one : {file : List ℕ} {q : Question} {working working₁ working₂ out out₁ out₂ : List ℕ} {a b : code.Answer} → Joins file q working working₁ out out₁ a → Joins file q working working₂ out out₂ b
     → (a ≡ b) × (working₁ ≡ working₂) × (out₁ ≡ out₂)

@@ -1,11 +1,9 @@
 -- The public operation: refused in order, or the join over the graph of file and question.
 use mathlib.Core.Path.{_≡_, refl, sym, ap, subst, _∙_, fun-ext}
-use mathlib.Core.Bool.{Bool, true, false}
-use mathlib.Core.List.{List, [], List·Memᴰ·not-nil}
-use mathlib.Core.Logic.{_≢_, ⊎-elim}
-use Prim.Native.Nat.{ℕ, suc, _/_, _≤_, _<_}
-use lib.ListN.{length, getD, replicate, length-replicate, getD-replicate, List·getD-eq-default}
-use lib.Dec.{leb}
+use mathlib.Core.List.{List, List·Memᴰ·not-nil}
+use mathlib.Core.Logic.{⊎-elim}
+use Prim.Native.Nat.{ℕ, suc, _≤_, _<_}
+use lib.ListN.{length, replicate, length-replicate, getD-replicate, List·getD-eq-default}
 use native.Mathlib.Omega.{arith}
 use borrow.Author.Tests.{le-leb, lt-leb}
 use Rattle.linkfile.specs.Format.{personCount, linkCount, feedCount}
@@ -19,18 +17,17 @@ use Rattle.ways.specs.Graph.{Graph, _∈_}
 use Rattle.ways.specs.ByHops.{byHops}
 use Rattle.ways.specs.Halves.{halves}
 use Rattle.ways.specs.Sizes.{recordSize}
+use Rattle.ways.proofs.Cases.{lt-or-le}
 use Rattle.ways.proofs.Halves.{halves-exact, halves-ordered, halves-determined}
-use Rattle.compact.specs.Compact.{persons, graphOf, Compact}
+use Rattle.compact.specs.Compact.{persons, graphOf}
 use Rattle.question.specs.declared.Question.{Question}
 use Rattle.question.specs.Asked.{askedFault, questionFault, Asks}
-use Rattle.question.specs.Admission.{next}
 use Rattle.question.specs.Filled.{Filled, Fillable}
 use Rattle.question.proofs.Refused.{asked-passed}
 use Rattle.question.proofs.Leads.{next-none}
 use Rattle.join.specs.Lists.{halvesFor, chainsFor, roomFault, halvesFault, joinFault}
 use Rattle.join.specs.Answers.{Answered, Joins, Passed, halvesIn, JoinsIn}
 use Rattle.portion.specs.declared.Answer as code
-use Rattle.join.proofs.Cases.{lt-or-le}
 use Rattle.join.proofs.Standing.{low-persons}
 
 first-sound : (a b : Fault) → firstOf a b ≡ sound → a ≡ sound

@@ -1,31 +1,29 @@
 -- Writing the half chains with their index, and gathering the chains: one law for each need, named after the place in the code.
-use mathlib.Core.Path.{_≡_, refl, sym, ap, subst, _∙_}
+use mathlib.Core.Path.{_≡_, refl, sym, ap, _∙_}
 use mathlib.Core.Bool.{Bool, true, false}
 use mathlib.Core.List.{List, [], _∷_, _++_, map, flatMap, map-append, append-nil, append-assoc}
 use mathlib.Core.Logic.{⊎-elim}
-use Prim.Native.Nat.{ℕ, zero, suc, _+_, _-_, _*_, _/_, _%_, _≤_, _<_}
-use lib.ListN.{length, getD, set, replicate, length-set, length-map, getD-replicate}
-use lib.Seq.{getD-set-same, getD-set-other, set-set, set-getD}
-use lib.Dec.{eqb, ltb}
+use Prim.Native.Nat.{ℕ, zero, suc, _+_, _/_, _%_, _≤_, _<_}
+use lib.ListN.{length, getD, set, length-set, length-map, getD-replicate}
+use lib.Seq.{getD-set-same, getD-set-other}
 use native.Mathlib.Omega.{arith}
-use native.Mathlib.Nat.{add-zero}
 use native.Mathlib.Numerals.{add-one}
 use native.Mathlib.Decide.{decLe}
-use borrow.Author.Tests.{eq-eqb, ne-eqb, lt-ltb, le-ltb}
 use Rattle.ways.specs.Graph.{Graph}
 use Rattle.ways.specs.Halves.{personsBelow}
 use Rattle.ways.specs.Join.{leftHops, rightHops}
 use Rattle.ways.specs.Sizes.{recordSize}
+use Rattle.ways.proofs.Cases.{same-or-not}
 use Rattle.ways.proofs.Members.{flatMap-append}
 use Rattle.ways.proofs.Join.{right-within}
-use Rattle.compact.specs.Compact.{persons, graphOf, Compact}
-use Rattle.join.specs.Pages.{Page, page, emit, emits, recordWith}
-use Rattle.join.specs.Walks.{rightsOf, Indexed, Open, Ready, following, taking, Going, Extended}
-use Rattle.join.specs.Shelf.{Lone, Ended, blank, nothing, Begin, Begun, halvesAt, halvesBefore, Shelve, Shelved, fromOne, waysOf, Gather, Gathered}
+use Rattle.compact.specs.Compact.{persons, graphOf}
+use Rattle.pages.specs.Pages.{Page, emits, blank, recordWith}
+use Rattle.join.specs.Pages.{page}
+use Rattle.join.specs.Walks.{rightsOf, Going, Extended}
+use Rattle.join.specs.Shelf.{Lone, Ended, nothing, Begin, Begun, halvesAt, halvesBefore, Shelve, Shelved, fromOne, waysOf, Gather, Gathered}
 use Rattle.join.specs.declared.extend.Walk.{Walk}
 use Rattle.join.specs.declared.extend.Found.{Found}
-use Rattle.join.proofs.Cases.{same-or-not, lt-or-le}
-use Rattle.join.proofs.Writing.{emits-append, emits-more}
+use Rattle.pages.proofs.Handing.{emits-append, emits-more, emits-counted}
 use Rattle.join.proofs.Steps.{unmarked, taken}
 
 -- ---- `lone`: the index is 1 behind To, as far as it is filled
@@ -84,29 +82,10 @@ module _ {rows targets only ending : List ℕ} {marks : List Bool} {working : Li
       → Begun rows targets only ending marks (set marks′ p false) working working′ w p found found′
   begin-begun free e = record {
     same = ap (λ (m : List Bool). set m p false) (e .same) ∙ unmarked marks p free;
-    right = rw (k .first) at (e .right) ∙ taken (graphOf rows targets) (rightsOf only ending (w .rest)) (w .left) marks blank 0 p (w .writes) (w .room) (page found working) (omega arith) free;
+    right = rw (k .first) at (e .right) ∙ taken (graphOf rows targets) (rightsOf only ending (w .rest)) (w .left) marks blank 0 p (w .writes) (w .room) (page found working) free;
   }
 
 -- ---- what is counted
-
--- with nothing noted, all were counted
-pub emits-counted : (writes room : ℕ) (s : Page) (xs : List (List ℕ)) → emits writes room s xs .more ≡ 0 → emits writes room s xs .count ≡ s .count + length xs
-unfolding emits
-emits-counted writes room s [] m = sym (add-zero (s .count))
-emits-counted writes room s (x ∷ xs) m =
-    ⊎-elim
-    (λ e. ⊎-elim
-    (λ l. let one : emit writes room s x .count ≡ s .count + 1 = rw (eq-eqb (s .more) 0 e, lt-ltb (s .count) room l) in
-    omega (arith, emits-counted writes room (emit writes room s x) xs m, one))
-    (λ l. let one : emit writes room s x .more ≡ 1 = rw (eq-eqb (s .more) 0 e, le-ltb (s .count) room l) in
-    let stays : emits writes room (emit writes room s x) xs ≡ emit writes room s x = emits-more writes room (emit writes room s x) xs (λ z. omega (arith, one, z)) in
-    absurd (omega (arith, one, ap (λ (q : Page). q .more) stays, m)))
-    (lt-or-le (s .count) room))
-    (λ ne.
-    let one : emit writes room s x .more ≡ s .more = rw (ne-eqb (s .more) 0 ne) in
-    let stays : emits writes room (emit writes room s x) xs ≡ emit writes room s x = emits-more writes room (emit writes room s x) xs (λ z. ne (sym one ∙ z)) in
-    absurd (ne (sym one ∙ sym (ap (λ (q : Page). q .more) stays) ∙ m)))
-    (same-or-not (s .more) 0)
 
 -- ---- `shelve`: what was handed over is what stands before the place
 

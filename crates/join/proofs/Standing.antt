@@ -4,8 +4,8 @@ use mathlib.Core.Bool.{Bool, true, false, cond}
 use mathlib.Core.List.{List, [], _∷_, _++_, map, flatMap, map-map, append-nil, append-assoc, List·Memᴰ·head, List·Memᴰ·tail, List·Memᴰ·not-nil, List·Memᴰ·cases-cons, List·Memᴰ·append-cases, Memᴰ·append-left, Memᴰ·append-right, Memᴰ·of-map}
 use mathlib.Core.Logic.{_≢_, _⊎_, inl, inr, ⊎-elim}
 use Prim.Native.Nat.{ℕ, zero, suc, _+_, _-_, _*_, _/_, _%_, _≤_, _<_}
-use lib.ListN.{length, getD, set, take, drop, replicate, length-append, length-set, getD-replicate, List·getD-append, List·getD-eq-default}
-use lib.Seq.{getD-set-same, getD-set-other, take-at, drop-append-add, append-snoc}
+use lib.ListN.{length, getD, set, take, drop, replicate, length-append, getD-replicate, List·getD-append, List·getD-eq-default}
+use lib.Seq.{getD-set-other, take-at, drop-append-add, append-snoc}
 use lib.Dec.{eqb, ltb}
 use native.Mathlib.Omega.{arith}
 use native.Mathlib.Nat.{add-zero, add-suc}
@@ -15,21 +15,23 @@ use Rattle.ways.specs.Graph.{Graph, _∈_, among}
 use Rattle.ways.specs.Chain.{Last, Linked, hops}
 use Rattle.ways.specs.Records.{recordOf, Fits, cellsOf, written}
 use Rattle.ways.specs.ByHops.{shorterFirst}
-use Rattle.ways.specs.Halves.{HalfChain, personsBelow, halfChains, halves}
+use Rattle.ways.specs.Halves.{personsBelow, halfChains, halves}
 use Rattle.ways.specs.Join.{onward}
 use Rattle.ways.specs.Sizes.{recordSize, mostHops}
+use Rattle.ways.proofs.Cases.{same-or-not, lt-or-le}
 use Rattle.ways.proofs.Members.{flatMap-append}
-use Rattle.ways.proofs.Records.{cellsOf-append, length-cellsOf, length-recordOf, length-written}
+use Rattle.ways.proofs.Records.{cellsOf-append, length-cellsOf, length-written}
 use Rattle.ways.proofs.Halves.{persons-below, halves-exact, half-fits}
 use Rattle.ways.proofs.Onward.{onward-from, halfChains-onward}
 use Rattle.compact.specs.Compact.{persons, graphOf, Compact}
 use Rattle.compact.proofs.Rows.{row-none}
-use Rattle.join.specs.Pages.{part}
-use Rattle.join.specs.Walks.{restOf, restsOf, placeOf, rightsOf, Indexed, following, taking}
-use Rattle.join.specs.Shelf.{Ended, blank, halvesAt, halvesBefore, placesAtMost}
-use Rattle.join.proofs.Cases.{same-or-not, lt-or-le}
+use Rattle.compact.specs.Marks.{Marked}
+use Rattle.compact.proofs.Marking.{marked-more}
+use Rattle.pages.specs.Pages.{blank}
+use Rattle.join.specs.Walks.{restOf, restsOf, placeOf, rightsOf, Indexed, taking}
+use Rattle.join.specs.Shelf.{Ended, halvesAt, halvesBefore, placesAtMost}
 use Rattle.join.proofs.Shelving.{before-next, before-more}
-use Rattle.join.proofs.Meeting.{flatMap-same, Marked, nobody, marked-more, atEnd, following-onward, startingAt}
+use Rattle.join.proofs.Meeting.{flatMap-same, atEnd, following-onward, startingAt}
 
 -- ---- (To) alone and its index
 

@@ -1,21 +1,22 @@
 -- Extending a chain and pairing it with its right halves: one law for each need, named after the place in the code.
 use mathlib.Core.Path.{_≡_, refl, sym, ap, _∙_}
 use mathlib.Core.Bool.{Bool, true, false}
-use mathlib.Core.List.{List, [], _∷_, _++_, map, flatMap, map-map, map-append}
+use mathlib.Core.List.{List, _∷_, map, flatMap, map-map, map-append}
 use Prim.Native.Nat.{ℕ, zero, suc, _+_, _-_, _*_, _≤_, _<_}
-use lib.ListN.{length, getD, set, take, drop, length-set, length-drop}
+use lib.ListN.{length, getD, set, take, drop, length-set}
 use lib.Seq.{slice, slice-cons, slice-empty, set-set, set-getD, drop-cons}
 use native.Mathlib.Omega.{arith}
 use native.Mathlib.Numerals.{add-one, sub-one}
 use Rattle.ways.specs.Graph.{Graph, keep}
 use Rattle.ways.specs.Sizes.{recordSize}
 use Rattle.ways.proofs.Members.{keep-append}
-use Rattle.compact.specs.Compact.{persons, graphOf, Compact}
-use Rattle.join.specs.Pages.{Page, page, emit, emits, part, recordWith, Room, Handed}
-use Rattle.join.specs.Walks.{clear, Persons, restOf, restsOf, placeOf, rightsOf, Indexed, Open, handed, Pair, Paired, Ready, Arrived, following, taking, Going, Extended}
+use Rattle.compact.specs.Compact.{persons, graphOf}
+use Rattle.pages.specs.Pages.{Page, emits, recordWith}
+use Rattle.join.specs.Pages.{page, part, Room, Handed}
+use Rattle.join.specs.Walks.{clear, Persons, restOf, restsOf, placeOf, rightsOf, handed, Pair, Paired, Ready, Arrived, following, taking, Going, Extended}
 use Rattle.join.specs.declared.extend.Walk.{Walk}
 use Rattle.join.specs.declared.extend.Found.{Found}
-use Rattle.join.proofs.Writing.{recordWith-more, emits-append, emits-more}
+use Rattle.pages.proofs.Handing.{emits-append, emits-more}
 
 -- ---- `apart`: those still to be looked at decide
 
@@ -142,15 +143,10 @@ following-links g rights zero marks p h = absurd (omega arith)
 following-links g rights (suc i) marks p h = rw sub-one
 
 -- what one more in the chain hands over
-pub taken : (g : Graph) (rights : ℕ → List (List ℕ)) (i : ℕ) (marks : List Bool) (chain : List ℕ) (len v writes room : ℕ) (s : Page) → len + 1 < length chain → getD marks v false ≡ false
+pub taken : (g : Graph) (rights : ℕ → List (List ℕ)) (i : ℕ) (marks : List Bool) (chain : List ℕ) (len v writes room : ℕ) (s : Page) → getD marks v false ≡ false
     → emits writes room s (map (recordWith (set chain (len + 1) v) (len + 1)) (following g rights i (set marks v true) v)) ≡ emits writes room s (map (recordWith chain len) (taking g rights i marks v))
-taken g rights i marks chain len v writes room s h free =
-    rw free
-    (ap (emits writes room s) (more (following g rights i (set marks v true) v)))
-  where
-    more : (ws : List (List ℕ)) → map (recordWith (set chain (len + 1) v) (len + 1)) ws ≡ map (recordWith chain len) (map (_∷_ v) ws)
-    more [] = refl
-    more (w ∷ ws) = rw (recordWith-more chain len v w h, more ws)
+unfolding recordWith
+taken g rights i marks chain len v writes room s free = rw (free, map-map)
 
 -- the loop's invariant: what was handed over, with what is still to come, is all
 pub record Turning (rows targets halves index : List ℕ) (marks₀ : List Bool) (out₀ chain : List ℕ) (w : Walk) (at end : ℕ) (found₀ : Found) (marks : List Bool) (out : List ℕ) (i : ℕ) (found : Found) : Type 0 where
@@ -231,8 +227,7 @@ module _ {rows targets halves index : List ℕ} {marks : List Bool} {out chain :
       back = ap (λ (m : List Bool). set m (getD targets i 0) false) (e .same) ∙ unmarked marks′ (getD targets i 0) free ∙ inv .same
 
       one : page found″ out″ ≡ handed chain w (page found′ out′) (taking (graphOf rows targets) (rightsOf halves index (w .rest)) (w .left - 1) marks (getD targets i 0))
-      one = e .right ∙ rw (inv .same) (taken (graphOf rows targets) (rightsOf halves index (w .rest)) (w .left - 1) marks chain (w .len) (getD targets i 0) (w .writes) (w .room) (page found′ out′)
-          (omega (arith, inv .going .ready .opens .short, inv .going .ready .opens .long, inv .some)) (sym (ap (λ (m : List Bool). getD m (getD targets i 0) false) (inv .same)) ∙ free))
+      one = e .right ∙ rw (inv .same) (taken (graphOf rows targets) (rightsOf halves index (w .rest)) (w .left - 1) marks chain (w .len) (getD targets i 0) (w .writes) (w .room) (page found′ out′) (sym (ap (λ (m : List Bool). getD m (getD targets i 0) false) (inv .same)) ∙ free))
 
       step-right : handed chain w (page found″ out″) (flatMap (taking (graphOf rows targets) (rightsOf halves index (w .rest)) (w .left - 1) marks) (slice (i + 1) end targets)) ≡ handed chain w (page found out) (following (graphOf rows targets) (rightsOf halves index (w .rest)) (w .left) marks at)
       unfolding flatMap

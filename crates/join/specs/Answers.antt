@@ -1,12 +1,9 @@
 -- The promise of the join. Definitions only.
 use mathlib.Core.Path.{_≡_}
 use mathlib.Core.List.{List}
-use mathlib.Core.Bool.{Bool}
 use mathlib.Core.Logic.{_≢_}
 use Prim.Native.Nat.{ℕ, _≤_, _<_}
 use lib.ListN.{length}
-use Rattle.linkfile.specs.Verdict.{Fault, sound, fault}
-use Rattle.ways.specs.Records.{written}
 use Rattle.ways.specs.Halves.{halves}
 use Rattle.ways.specs.ByHops.{byHops}
 use Rattle.ways.specs.Sizes.{recordSize, mostHops}

@@ -25,11 +25,11 @@ chainsFor file q = byHops (next file q) (q .from) (q .to) (q .hops)
 
 -- 16: output under ten cells
 abbrev pub roomFault : ℕ → ℕ → Fault → Fault
-roomFault recordSize cells after = unless (leb recordSize cells) 16 0 after
+roomFault size cells after = unless (leb size cells) 16 0 after
 
 -- 18: working cells hold fewer records than there are half chains
 abbrev pub halvesFault : ℕ → ℕ → List (List ℕ) → Fault
-halvesFault recordSize cells halfChains = unless (halvesFit recordSize cells halfChains) 18 0 sound
+halvesFault size cells halfChains = unless (halvesFit size cells halfChains) 18 0 sound
 
 -- the first refusal of a join: 1 to 9, 10 to 15, 16, 18
 abbrev pub joinFault : List ℕ → Question → List ℕ → List ℕ → Fault

@@ -1,41 +1,17 @@
--- What is handed over: records one behind the other, while there is room. Definitions only.
+-- Handing over a chain of the join: what it asks, and what it does. Definitions only.
 use mathlib.Core.Path.{_≡_}
-use mathlib.Core.Bool.{cond}
-use mathlib.Core.List.{List, [], _∷_}
-use Prim.Native.Nat.{ℕ, _+_, _-_, _*_, _≤_, _<_}
-use lib.ListN.{length, set, take, drop}
-use lib.Dec.{ltb, eqb}
+use mathlib.Core.List.{List}
+use Prim.Native.Nat.{ℕ, _+_, _*_, _≤_, _<_}
+use lib.ListN.{length, take, drop}
 use lib.Seq.{paste}
 use Rattle.ways.specs.Sizes.{recordSize}
+use Rattle.pages.specs.Pages.{Page, emit, recordWith}
 use Rattle.join.specs.declared.extend.Walk.{Walk}
 use Rattle.join.specs.declared.extend.Found.{Found}
 
--- so many chains were handed over, whether there was one more (1), and the cells
-pub record Page : Type 0 where
-  pub count : ℕ
-  pub more : ℕ
-  pub cells : List ℕ
-
+-- the page that was found so far
 abbrev pub page : Found → List ℕ → Page
 page f cells = record { count = f .count; more = f .more; cells = cells }
-
--- one more record: counted if there is room, and written unless only counting (0); else noted; and nothing once one was noted
-abbrev pub emit : ℕ → ℕ → Page → List ℕ → Page
-emit writes room s r =
-    cond (eqb (s .more) 0)
-    (cond (ltb (s .count) room)
-    (record { count = s .count + 1; more = 0; cells = cond (eqb writes 0) (s .cells) (paste (s .cells) (s .count * recordSize) r recordSize) })
-    (record { count = s .count; more = 1; cells = s .cells }))
-    s
-
--- so each of several
-unfoldable pub emits : ℕ → ℕ → Page → List (List ℕ) → Page
-emits writes room s [] = s
-emits writes room s (r ∷ rs) = emits writes room (emit writes room s r) rs
-
--- the record of the chain so far with w behind it. The chain has its persons from cell 1 on, and zeros behind them
-unfoldable pub recordWith : List ℕ → ℕ → List ℕ → List ℕ
-recordWith chain len w = set (paste chain (len + 1) w (length w)) 0 (len + length w - 1)
 
 -- so many cells from one on
 abbrev pub part : List ℕ → ℕ → ℕ → List ℕ

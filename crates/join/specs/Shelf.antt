@@ -9,7 +9,8 @@ use Rattle.ways.specs.Halves.{personsBelow}
 use Rattle.ways.specs.Join.{leftHops, rightHops}
 use Rattle.ways.specs.Sizes.{recordSize, mostHops}
 use Rattle.compact.specs.Compact.{persons, graphOf, Compact}
-use Rattle.join.specs.Pages.{Page, page, emits, recordWith}
+use Rattle.pages.specs.Pages.{emits, blank, recordWith}
+use Rattle.join.specs.Pages.{page}
 use Rattle.join.specs.Walks.{rightsOf, Indexed, following, taking}
 use Rattle.join.specs.declared.extend.Walk.{Walk}
 use Rattle.join.specs.declared.extend.Found.{Found}
@@ -23,10 +24,6 @@ pub record Ended (ending : List ℕ) (to : ℕ) : Type 0 where
   pub long : length ending ≡ suc persons
   pub low : (p : ℕ) → p ≤ to → getD ending p 0 ≡ 0
   pub high : (p : ℕ) → to < p → p < suc persons → getD ending p 0 ≡ 1
-
--- a chain that nobody stands in yet
-abbrev pub blank : List ℕ
-blank = replicate recordSize 0
 
 -- nothing handed over, nothing noted
 abbrev pub nothing : Found

@@ -7,7 +7,8 @@ use lib.ListN.{length, getD, set}
 use Rattle.ways.specs.Graph.{Graph, keep}
 use Rattle.ways.specs.Sizes.{recordSize}
 use Rattle.compact.specs.Compact.{persons, graphOf, Compact}
-use Rattle.join.specs.Pages.{Page, page, emits, part, recordWith}
+use Rattle.pages.specs.Pages.{Page, emits, recordWith}
+use Rattle.join.specs.Pages.{page, part}
 use Rattle.join.specs.declared.extend.Walk.{Walk}
 use Rattle.join.specs.declared.extend.Found.{Found}
 

@@ -1,25 +1,8 @@
 // Handing over a chain: it is counted, its record is written, or it is the one more for which there is no room.
-ghost use mathlib.Core.Path.{_≡_};
-ghost use Prim.Native.Nat.{_+_, _≤_};
-ghost use lib.ListN.{length};
-ghost use lib.Seq.{paste};
-ghost use Rattle.ways.specs.Sizes.{recordSize};
 ghost use Rattle.join.specs.Pages.{Behind, Follows, Room, Handed};
 use crate::extend::Found;
 use crate::extend::Walk;
 use ways::RECORD;
-
-// Copies the cells of the chain to `out`, from cell `at` on.
-fn put(out: &mut [u32], at: usize, chain: [u32; RECORD])
-    requires { ⌜ at + recordSize ≤ length (now out) ⌝ }
-    ensures { λ _. ⌜ now (out .exit) ≡ paste (now (out .entry)) at chain recordSize ⌝ }
-{
-    let mut i = 0;
-    while i < RECORD {
-        out[at + i] = chain[i];
-        i += 1;
-    }
-}
 
 // Copies `count` persons of a half chain, from its cell `from` on, to `out`, from cell `at` on.
 fn append(out: &mut [u32], at: usize, halves: &[u32], from: usize, count: usize)
@@ -54,7 +37,7 @@ pub fn hand_over(
     }
     if w.writes != 0 {
         let at = count * RECORD;
-        put(out, at, chain);
+        pages::put(out, at, chain);
         append(out, at + (w.len + 1), halves, from, w.rest);
         out[at] = (w.len + w.rest - 1) as u32;
         return Found {

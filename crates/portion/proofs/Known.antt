@@ -1,7 +1,6 @@
 -- What is known of the listing of a file and a question that pass, of a portion of it, and of a bookmark in it.
-use mathlib.Core.Path.{_≡_, refl, ap}
-use mathlib.Core.Logic.{_⊎_, inl, inr}
-use mathlib.Core.List.{List, [], _∷_, _++_, map, List·Memᴰ·head, List·Memᴰ·tail}
+use mathlib.Core.Path.{_≡_, refl}
+use mathlib.Core.List.{List, [], _∷_, _++_}
 use Prim.Native.Nat.{ℕ, suc, _-_, _<_, _≤_}
 use native.Mathlib.Omega.{arith}
 use lib.ListN.{length}
@@ -9,13 +8,13 @@ use borrow.Author.Tests.{le-leb}
 use Rattle.linkfile.specs.Verdict.{sound}
 use Rattle.linkfile.proofs.Passed.{sound-rules}
 use Rattle.ways.specs.Graph.{_∈_}
-use Rattle.ways.specs.Order.{Before, before, Rising}
+use Rattle.ways.specs.Order.{Before, Rising}
 use Rattle.ways.specs.Listing.{ways, listing}
 use Rattle.ways.specs.Portions.{after, lastOr}
 use Rattle.ways.specs.Records.{Fits, recordOf, chainOf, cellsOf, roomOf}
 use Rattle.ways.specs.Sizes.{recordSize}
-use Rattle.ways.proofs.Portions.{lastOr-cases}
-use Rattle.ways.proofs.After.{after-from}
+use Rattle.ways.proofs.Portions.{lastOr-in}
+use Rattle.ways.proofs.After.{after-from, after-start}
 use Rattle.ways.proofs.Members.{take-in}
 use Rattle.ways.proofs.Ordered.{ordered}
 use Rattle.ways.proofs.Records.{listing-fits, length-recordOf, chainOf-recordOf, true-isRecordIn}
@@ -28,27 +27,14 @@ use Rattle.portion.specs.EndToEnd.{lastRecord}
 use Rattle.portion.proofs.Starting.{asked-file, asked-proper}
 use Rattle.portion.proofs.Records.{last-record}
 
--- the last of some is one of them
-pub last-in : (c : List ℕ) (P : List (List ℕ)) → lastOr c P ∈ c ∷ P
-last-in c P = go (lastOr-cases c P)
-  where
-    go : (lastOr c P ≡ c) ⊎ (lastOr c P ∈ P) → lastOr c P ∈ c ∷ P
-    go (inl e) = List·Memᴰ·head e
-    go (inr m) = List·Memᴰ·tail m
-
 -- the chains of a portion are chains of the listing
 pub portion-in : (file : List ℕ) (q : Question) (start : Start) (out : List ℕ) {c : List ℕ} → c ∈ portionFor file q start out → c ∈ listingFor file q
 portion-in file q start out m = after-from (startsAfter start) (listingFor file q) (take-in (roomOf recordSize (length out)) (after (startsAfter start) (listingFor file q)) m) .0
 
 -- a fresh start has all chains before it
-first-all : (s : ℕ) (L : List (List ℕ)) → after [] (map (_∷_ s) L) ≡ map (_∷_ s) L
-unfolding after before
-first-all s [] = refl
-first-all s (c ∷ L) = ap (_∷_ (s ∷ c)) (first-all s L)
-
 pub fresh-all : (file : List ℕ) (q : Question) → after [] (listingFor file q) ≡ listingFor file q
 unfolding listing
-fresh-all file q = first-all (q .from) (ways (next file q) (q .to) (q .hops) (q .from ∷ []) (q .from))
+fresh-all file q = after-start (q .from) (ways (next file q) (q .to) (q .hops) (q .from ∷ []) (q .from))
 
 module _ (file : List ℕ) (q : Question) (asked : askedFault file q ≡ sound) where
   pub rows : (p : ℕ) → Rising _<_ (next file q p)
@@ -86,4 +72,4 @@ module _ (file : List ℕ) (q : Question) (asked : askedFault file q ≡ sound) 
   last-kept b (c ∷ P) rest some inside =
       let same : length P ≡ suc (length P) - 1 = omega arith in
       let stands = last-record recordSize c P rest (λ d m. fits d (inside d m)) in
-      rw (← same, stands) (kept (lastOr c P) (inside (lastOr c P) (last-in c P)))
+      rw (← same, stands) (kept (lastOr c P) (inside (lastOr c P) (lastOr-in c P)))

@@ -5,5 +5,6 @@ pub mod Starting
 pub mod Numbered
 pub mod Records
 pub mod Known
+pub mod Telling
 pub mod LaidEnd
 pub mod OneResult

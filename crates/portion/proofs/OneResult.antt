@@ -9,7 +9,7 @@ use Rattle.portion.specs.Answers.{answerSaid, Portioned}
 use Rattle.portion.specs.declared.Answer as code
 
 -- what an answer says tells which answer it is
-answer-said : (a b : code.Answer) → answerSaid a ≡ answerSaid b → a ≡ b
+pub answer-said : (a b : code.Answer) → answerSaid a ≡ answerSaid b → a ≡ b
 answer-said (code.the-variants.Listed count ended) (code.the-variants.Listed other over) e = cc
 answer-said (code.the-variants.Refused number place) (code.the-variants.Refused other there) e = cc
 answer-said (code.the-variants.Listed count ended) (code.the-variants.Refused number place) e = let z : _≡_ {A = ℕ} 0 1 = cc in absurd (omega arith)

@@ -1,5 +1,4 @@
 -- The laws that the proofs of the functions cite: one for each thing that is not plain arithmetic.
-mod Cases
 mod Writing
 mod Resuming
 mod Pruning

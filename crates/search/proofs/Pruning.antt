@@ -9,12 +9,12 @@ use native.Mathlib.Omega.{arith}
 use native.Mathlib.Numerals.{add-one}
 use Rattle.ways.specs.Graph.{Graph}
 use Rattle.ways.specs.Listing.{ways}
+use Rattle.ways.proofs.Cases.{same-or-not}
 use Rattle.ways.proofs.Barrier.{none-more, none-hops, pop-on}
 use Rattle.ways.proofs.Members.{within-cons}
 use Rattle.compact.specs.Compact.{persons}
 use Rattle.search.specs.Barriers.{Hold, Kept, unwind, Trailed, trailRoom, Undoable, Raising, Raised, Barren, Settling, Settled, raised, undone, Barred}
 use Rattle.search.specs.declared.walk.Found.{Found}
-use Rattle.search.proofs.Cases.{same-or-not}
 
 -- ---- the trail
 

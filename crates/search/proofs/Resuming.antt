@@ -1,7 +1,7 @@
 -- After a bookmark: what a person's side of it says of the ways through him.
-use mathlib.Core.Path.{_≡_, refl, sym, ap, subst, _∙_}
+use mathlib.Core.Path.{_≡_, refl, sym, ap, _∙_}
 use mathlib.Core.Bool.{Bool, true, false, cond}
-use mathlib.Core.List.{List, [], _∷_, _++_, map, Memᴰ·of-map}
+use mathlib.Core.List.{List, [], _∷_, _++_, map}
 use Prim.Native.Nat.{ℕ, _+_, _≤_, _<_}
 use lib.ListN.{getD}
 use lib.Seq.{slice, slice-cons}
@@ -10,9 +10,8 @@ use lib.Dec.{eqb}
 use native.Mathlib.Omega.{arith}
 use native.Mathlib.Numerals.{add-one}
 use borrow.Author.Tests.{eq-eqb, ne-eqb}
-use Rattle.ways.specs.Order.{Before, less, same}
 use Rattle.ways.specs.Portions.{after}
-use Rattle.ways.proofs.After.{after-append, after-map, after-all, after-none, before-nil}
+use Rattle.ways.proofs.After.{after-append, after-map, after-before, after-behind, before-nil}
 use Rattle.search.specs.Bookmarks.{restOf, onward, Beginning, Beside}
 use Rattle.search.specs.Places.{Place}
 
@@ -44,17 +43,6 @@ onward-append tight b xs ys = go (eqb tight 0)
 pub onward-end : (tight : ℕ) (b : List ℕ) → (tight ≡ 0 → ⊥) → onward tight b ([] ∷ []) ≡ []
 unfolding onward after
 onward-end tight b n = rw (ne-eqb tight 0 n, before-nil b)
-
--- v stands before the bookmark's next person, or behind him
-after-before : (x v : ℕ) (b : List ℕ) (ws : List (List ℕ)) → v < x → after (x ∷ b) (map (_∷_ v) ws) ≡ []
-after-before x v b ws h = after-none (x ∷ b) (map (_∷_ v) ws) (λ c m. let r = Memᴰ·of-map (_∷_ v) ws m in λ q. no (r .0) (subst (λ d. Before (x ∷ b) d) (sym (r .2)) q))
-  where
-    no : (w : List ℕ) → ¬ Before (x ∷ b) (v ∷ w)
-    no w (less i) = omega arith
-    no w (same e i) = omega arith
-
-after-behind : (x v : ℕ) (b : List ℕ) (ws : List (List ℕ)) → x < v → after (x ∷ b) (map (_∷_ v) ws) ≡ map (_∷_ v) ws
-after-behind x v b ws h = after-all (x ∷ b) (map (_∷_ v) ws) (λ c m. let r = Memᴰ·of-map (_∷_ v) ws m in subst (λ d. Before (x ∷ b) d) (r .2) (less h))
 
 module _ {bookmark : List ℕ} {w : Place} where
   pub beside-loose : {v : ℕ} → w .tight ≡ 0 → Beside bookmark w v 0

@@ -1,29 +1,31 @@
 -- The two functions of the cycle: one law for each of their needs, named after the place in the code.
-use mathlib.Core.Path.{_≡_, refl, sym, ap, subst, _∙_}
+use mathlib.Core.Path.{_≡_, refl, sym, ap, _∙_}
 use mathlib.Core.Bool.{Bool, true, false, cond}
-use mathlib.Core.List.{List, [], _∷_, _++_, flatMap, map, map-map, map-append, List·Memᴰ·head, List·Memᴰ·tail}
+use mathlib.Core.List.{List, [], _∷_, flatMap, map, map-map, map-append, map-eq-nil-iff}
 use mathlib.Core.Logic.{⊎-elim}
 use Prim.Native.Nat.{ℕ, zero, suc, _+_, _-_, _≤_, _<_}
 use lib.ListN.{length, getD, set, length-set}
 use lib.Seq.{slice, slice-cons, slice-empty, getD-set-same, getD-set-other, set-set, set-getD}
 use lib.Dec.{eqb}
 use native.Mathlib.Omega.{arith}
-use native.Mathlib.Numerals.{add-one, sub-one}
+use native.Mathlib.Numerals.{add-one}
 use borrow.Author.Tests.{eq-eqb, ne-eqb}
-use Rattle.ways.specs.Graph.{Graph, _∈_, among}
-use Rattle.ways.specs.Order.{Rising}
+use Rattle.ways.specs.Graph.{among}
 use Rattle.ways.specs.Listing.{by, ways}
-use Rattle.ways.proofs.Members.{flatMap-append, mem-split}
-use Rattle.ways.proofs.Rising.{rising-below, rising-above}
+use Rattle.ways.proofs.Cases.{lt-or-le}
+use Rattle.ways.proofs.Way.{ways-links}
+use Rattle.ways.proofs.Barrier.{last-hop}
 use Rattle.compact.specs.Compact.{graphOf}
-use Rattle.search.specs.Pages.{Page, page, emits, recordWith, Room, Handed}
+use Rattle.compact.proofs.Marking.{marked-more}
+use Rattle.pages.specs.Pages.{Page, emits, recordWith}
+use Rattle.pages.proofs.Handing.{emits-append, emits-more, emits-none}
+use Rattle.search.specs.Pages.{page, Room, Handed}
 use Rattle.search.specs.Bookmarks.{restOf, onward, Tight, Beside}
 use Rattle.search.specs.Barriers.{Barren, Settling, Settled, Barred}
-use Rattle.search.specs.Walks.{seenOf, Marked, Ready, following, handed, next, noted, GoneThrough, Entered}
+use Rattle.search.specs.Walks.{seenOf, Ready, following, handed, next, noted, GoneThrough, Entered}
 use Rattle.search.specs.Places.{Place}
 use Rattle.search.specs.declared.walk.Found.{Found}
-use Rattle.search.proofs.Cases.{same-or-not, lt-or-le}
-use Rattle.search.proofs.Writing.{record-end, record-last, emits-append, emits-more, emits-none, map-none}
+use Rattle.search.proofs.Writing.{record-end, record-last}
 use Rattle.search.proofs.Resuming.{onward-loose, onward-none, onward-append, onward-end}
 use Rattle.search.proofs.Pruning.{barred-none, barred-trans, barred-settle, hold-push}
 
@@ -40,38 +42,9 @@ seen-more : (chain : List ℕ) (n x : ℕ) → n + 1 < length chain → seenOf (
 unfolding seenOf
 seen-more chain n x h = rw (add-one, getD-set-same chain (suc n) x 0 (omega arith), seen-set chain n (suc n) x (omega arith))
 
-pub marked-more : {marks : List Bool} {seen : List ℕ} (v : ℕ) → v < length marks → Marked marks seen → Marked (set marks v true) (v ∷ seen)
-unfolding among
-marked-more {marks} {seen} v h m = record {
-  each = λ u hu.
-      ⊎-elim
-      (λ e. rw (eq-eqb u v e, e) (getD-set-same marks v true false h))
-      (λ ne. rw (ne-eqb u v ne) (getD-set-other marks v u true false ne ∙ m .each u hu))
-      (same-or-not u v);
-}
-
 -- a cell that was set and put back
 put-back : {A : Type 0} (l : List A) (i : ℕ) (x d : A) → getD l i d ≡ d → set (set l i x) i d ≡ l
 put-back l i x d h = set-set l i x d ∙ ap (set l i) (sym h) ∙ set-getD l i d
-
--- ---- the last hop: nobody but t can follow, and t stands once in the row
-
-last-none : (g : Graph) (t : ℕ) (seen row : List ℕ) → ((x : ℕ) → x ∈ row → x ≡ t → ⊥) → flatMap (by t seen (ways g t 0)) row ≡ []
-unfolding flatMap by ways
-last-none g t seen [] h = refl
-last-none g t seen (x ∷ row) h = rw (ne-eqb x t (h x (List·Memᴰ·head refl)), last-none g t seen row (λ y m. h y (List·Memᴰ·tail m))) (go (among x seen))
-  where
-    go : (b : Bool) → _≡_ {A = List (List ℕ)} (cond b [] [] ++ []) []
-    go true = refl
-    go false = refl
-
-last-hop : (g : Graph) (t p : ℕ) (seen : List ℕ) → Rising _<_ (g p) → t ∈ g p → ways g t 1 seen p ≡ (t ∷ []) ∷ []
-unfolding ways flatMap by
-last-hop g t p seen r m =
-    let q = mem-split m in
-    let u : Rising _<_ (q .0 ++ t ∷ q .1) = subst (Rising _<_) (q .2) r in
-    rw (q .2, flatMap-append (by t seen (ways g t 0)) (q .0) (t ∷ q .1), eq-eqb t t refl)
-    (rw (last-none g t seen (q .0) (λ x i e. let h = rising-below _<_ (q .1) i u in omega arith), last-none g t seen (q .1) (λ x i e. let h = rising-above _<_ t (q .0) (q .1) u x i in omega arith)))
 
 module _ {rows targets bookmark : List ℕ} {marks : List Bool} {chain out barriers trail : List ℕ} {w : Place} {v : ℕ} {found : Found}
     (k : Ready rows targets bookmark marks chain out barriers trail w v found) where
@@ -83,7 +56,7 @@ module _ {rows targets bookmark : List ℕ} {marks : List Bool} {chain out barri
   unfolding by emits
   enter-skipped {s} side e = record { same = refl; whole = refl; barred = here; right = go (eqb v (w .to)) (among v (seenOf chain (w .len))) (ways (graphOf rows targets) (w .to) (w .left - 1) (v ∷ seenOf chain (w .len)) v) }
     where
-      go : (a b : Bool) (ws : List (List ℕ)) → page found out ≡ emits (w .room) (page found out) (map (recordWith chain (w .len)) (onward (w .tight) (restOf bookmark (w .len)) (cond a ((v ∷ []) ∷ []) (cond b [] (map (_∷_ v) ws)))))
+      go : (a b : Bool) (ws : List (List ℕ)) → page found out ≡ emits 1 (w .room) (page found out) (map (recordWith chain (w .len)) (onward (w .tight) (restOf bookmark (w .len)) (cond a ((v ∷ []) ∷ []) (cond b [] (map (_∷_ v) ws)))))
       go true b ws = rw (side .skipped e ([] ∷ []))
       go false true ws = rw onward-none
       go false false ws = rw (side .skipped e ws)
@@ -108,7 +81,7 @@ module _ {rows targets bookmark : List ℕ} {marks : List Bool} {chain out barri
   }
 
   known : getD marks v false ≡ among v (seenOf chain (w .len))
-  known = k .marked .each v (k .place)
+  known = k .marked .each v
 
   -- v is in the chain
   pub enter-marked : (v ≡ w .to → ⊥) → getD marks v false ≡ true → Entered rows targets bookmark marks marks chain chain out out barriers barriers trail trail w v found found
@@ -134,7 +107,7 @@ module _ {rows targets bookmark : List ℕ} {marks : List Bool} {chain out barri
           → Entered rows targets bookmark marks marks chain chain out out′ barriers barriers trail trail w v found r
       unfolding by emits
       enter-last {s = s} side z e h =
-          let only : ways (graphOf rows targets) (w .to) (w .left - 1) (v ∷ seenOf chain (w .len)) v ≡ (w .to ∷ []) ∷ [] = rw e (last-hop (graphOf rows targets) (w .to) v (v ∷ seenOf chain (w .len)) (k .graph .rising v) (k .hold .near v (k .place) ne (omega (arith, low, e)))) in
+          let only : ways (graphOf rows targets) (w .to) (w .left - 1) (v ∷ seenOf chain (w .len)) v ≡ (w .to ∷ []) ∷ [] = rw e (last-hop (graphOf rows targets) (w .to) (v ∷ seenOf chain (w .len)) v (k .graph .rising v) (k .hold .near v (k .place) ne (omega (arith, low, e)))) in
           record {
             same = refl;
             whole = refl;
@@ -163,8 +136,7 @@ module _ {rows targets bookmark : List ℕ} {marks : List Bool} {chain out barri
       enter-ready side n2 = record {
         graph = k .graph;
         place = k .place;
-        wide = length-set marks v true ∙ k .wide;
-        marked = rw seen-next (marked-more v (omega (arith, k .wide, k .place)) (k .marked));
+        marked = rw seen-next (marked-more v (k .place) (k .marked));
         long = length-set chain (w .len + 1) v ∙ k .long;
         blank = λ i l. getD-set-other chain (w .len + 1) i v 0 (λ e. omega arith) ∙ k .blank i (omega arith);
         some = omega (arith, two);
@@ -186,8 +158,8 @@ module _ {rows targets bookmark : List ℕ} {marks : List Bool} {chain out barri
         on-dead : Barren s found r → ways (graphOf rows targets) (w .to) (w .left - 1) (v ∷ seenOf chain (w .len)) v ≡ []
         on-dead f =
             let right = rw seen-next at (done .right) in
-            let none = emits-none (w .room) (page (noted found) out) _ (sym (ap (λ (q : Page). q .more) right) ∙ f .none) (sym (ap (λ (q : Page). q .count) right) ∙ f .same) in
-            sym (onward-loose s _ _ (f .loose)) ∙ map-none _ _ none
+            let none = emits-none 1 (w .room) (page (noted found) out) _ (sym (ap (λ (q : Page). q .more) right) ∙ f .none) (sym (ap (λ (q : Page). q .count) right) ∙ f .same) in
+            sym (onward-loose s _ _ (f .loose)) ∙ map-eq-nil-iff _ .0 none
 
         pub enter-settling : Settling barriers₁ trail₁ v (w .left - 1 + 1) found r
         enter-settling = record {
@@ -232,17 +204,11 @@ pub record Turning (rows targets bookmark : List ℕ) (marks₀ : List Bool) (ch
   pub none : found .more ≡ 0
   pub right : handed chain₀ w (page found out) (still rows targets bookmark chain₀ w i end) ≡ handed chain₀ w (page found₀ out₀) (following rows targets bookmark chain₀ w at)
 
--- the ways on from a person, by his links
-ways-links : (g : Graph) (t k : ℕ) (seen : List ℕ) (p : ℕ) → 1 ≤ k → ways g t k seen p ≡ flatMap (by t seen (ways g t (k - 1))) (g p)
-unfolding ways
-ways-links g t zero seen p h = absurd (omega arith)
-ways-links g t (suc k) seen p h = rw sub-one
-
 module _ {rows targets bookmark : List ℕ} {marks : List Bool} {chain out barriers trail : List ℕ} {w : Place} {at : ℕ} {found : Found} where
   pub go-start : Ready rows targets bookmark marks chain out barriers trail w at found
       → Turning rows targets bookmark marks chain out barriers trail w at (getD rows (at + 1) 0) (noted found) marks chain out barriers trail (getD rows at 0) (noted found)
   go-start k = record {
-    ready = record { graph = k .graph; place = k .place; wide = k .wide; marked = k .marked; long = k .long; blank = k .blank; some = k .some; short = k .short; room = k .room; tight = k .tight; hold = k .hold; trails = k .trails; fits = k .fits; none = refl };
+    ready = record { graph = k .graph; place = k .place; marked = k .marked; long = k .long; blank = k .blank; some = k .some; short = k .short; room = k .room; tight = k .tight; hold = k .hold; trails = k .trails; fits = k .fits; none = refl };
     barred = barred-none (k .hold) (omega (arith, k .fits, k .trails));
     same = refl;
     whole = refl;
@@ -264,7 +230,6 @@ module _ {rows targets bookmark : List ℕ} {marks : List Bool} {chain out barri
     go-enter lt = let k = inv .ready in record {
       graph = k .graph;
       place = k .graph .people i (omega (arith, inv .bound));
-      wide = ap length (inv .same) ∙ k .wide;
       marked = rw (inv .same, inv .whole) (k .marked);
       long = ap length (inv .whole) ∙ k .long;
       blank = λ j l. rw (inv .whole) (k .blank j l);
@@ -286,7 +251,7 @@ module _ {rows targets bookmark : List ℕ} {marks : List Bool} {chain out barri
 
       -- one more than there is room for was seen: nothing else is handed over
       pub go-stop : (found″ .more ≡ 0 → ⊥) → GoneThrough rows targets bookmark marks marks″ chain chain″ out out″ barriers barriers″ trail trail″ w at found found″
-      go-stop n = record { same = e .same ∙ inv .same; whole = e .whole ∙ inv .whole; barred = barred-trans (inv .barred) (rw (inv .whole) at (e .barred)); right = sym (emits-more (w .room) (page found″ out″) _ n) ∙ step-right }
+      go-stop n = record { same = e .same ∙ inv .same; whole = e .whole ∙ inv .whole; barred = barred-trans (inv .barred) (rw (inv .whole) at (e .barred)); right = sym (emits-more 1 (w .room) (page found″ out″) _ n) ∙ step-right }
 
       pub go-turn : length out″ ≡ length out′ → found″ .more ≡ 0 → Turning rows targets bookmark marks chain out barriers trail w at end found marks″ chain″ out″ barriers″ trail″ (i + 1) found″
       go-turn long n = record {

@@ -1,14 +1,15 @@
 -- What entering a person and going through his links ask, and what they do. Definitions only.
 use mathlib.Core.Path.{_≡_}
-use mathlib.Core.Bool.{Bool, false}
+use mathlib.Core.Bool.{Bool}
 use mathlib.Core.List.{List, [], _∷_, map}
 use Prim.Native.Nat.{ℕ, zero, suc, _+_, _-_, _*_, _≤_, _<_}
 use lib.ListN.{length, getD}
-use Rattle.ways.specs.Graph.{among}
 use Rattle.ways.specs.Listing.{by, ways}
 use Rattle.ways.specs.Sizes.{recordSize}
 use Rattle.compact.specs.Compact.{persons, graphOf, Compact}
-use Rattle.search.specs.Pages.{Page, page, emits, recordWith}
+use Rattle.compact.specs.Marks.{Marked}
+use Rattle.pages.specs.Pages.{Page, emits, recordWith}
+use Rattle.search.specs.Pages.{page}
 use Rattle.search.specs.Bookmarks.{restOf, onward, Tight}
 use Rattle.search.specs.Barriers.{Hold, trailRoom, Barred}
 use Rattle.search.specs.Places.{Place}
@@ -19,16 +20,11 @@ unfoldable pub seenOf : List ℕ → ℕ → List ℕ
 seenOf chain zero = []
 seenOf chain (suc n) = getD chain (suc n) 0 ∷ seenOf chain n
 
--- the marks are those of the persons seen
-pub record Marked (marks : List Bool) (seen : List ℕ) : Type 0 where
-  pub each : (v : ℕ) → v < persons → getD marks v false ≡ among v seen
-
 -- what both functions ask: a graph, a person, marks of those in the chain, cells for the hops left and zeros in them,
 -- barriers that hold
 pub record Ready (rows targets bookmark : List ℕ) (marks : List Bool) (chain out barriers trail : List ℕ) (w : Place) (at : ℕ) (found : Found) : Type 0 where
   pub graph : Compact rows targets
   pub place : at < persons
-  pub wide : length marks ≡ persons
   pub marked : Marked marks (seenOf chain (w .len))
   pub long : length chain ≡ recordSize
   pub blank : (i : ℕ) → w .len < i → getD chain i 0 ≡ 0
@@ -51,7 +47,7 @@ through rows targets bookmark chain w v = onward (w .tight) (restOf bookmark (w 
 
 -- the records of the chain so far with each of the ways behind it
 abbrev pub handed : List ℕ → Place → Page → List (List ℕ) → Page
-handed chain w s ws = emits (w .room) s (map (recordWith chain (w .len)) ws)
+handed chain w s ws = emits 1 (w .room) s (map (recordWith chain (w .len)) ws)
 
 -- where the search stands once v is in the chain, on the side s of the bookmark
 abbrev pub next : Place → ℕ → Place

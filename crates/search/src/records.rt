@@ -1,26 +1,9 @@
 // Handing over a chain: its record is written to the output, or it is the one more for which there is no room.
-ghost use mathlib.Core.Path.{_≡_};
-ghost use Prim.Native.Nat.{_+_, _≤_};
-ghost use lib.ListN.{length};
-ghost use lib.Seq.{paste};
-ghost use Rattle.ways.specs.Sizes.{recordSize};
 ghost use Rattle.search.specs.Pages.{Room, Handed};
 use crate::walk::Ask;
 use crate::walk::Found;
 use crate::walk::Walk;
 use ways::RECORD;
-
-// Copies the cells of the chain to `out`, from cell `at` on.
-fn put(out: &mut [u32], at: usize, chain: [u32; RECORD])
-    requires { ⌜ at + recordSize ≤ length (now out) ⌝ }
-    ensures { λ _. ⌜ now (out .exit) ≡ paste (now (out .entry)) at chain recordSize ⌝ }
-{
-    let mut i = 0;
-    while i < RECORD {
-        out[at + i] = chain[i];
-        i += 1;
-    }
-}
 
 // Hands over the chain so far with v behind it and To at its end, which v may be himself: `hops` hops in all.
 // The chain is copied first, and the last cells are set where they lie: a copy of what was just stored is slow.
@@ -45,7 +28,7 @@ pub fn hand_over(
         };
     }
     let at = count * RECORD;
-    put(out, at, chain);
+    pages::put(out, at, chain);
     out[at] = hops as u32;
     out[at + (w.len + 1)] = v;
     out[at + (hops + 1)] = ask.to;

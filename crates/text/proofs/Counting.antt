@@ -1,31 +1,18 @@
 -- A count in decimal digits, the last digit first: counting on, and the digits as text.
 use mathlib.Core.Path.{_≡_, refl, sym, ap, subst, _∙_}
 use mathlib.Core.Logic.{_⊎_, inl, inr, ⊎-elim}
-use mathlib.Core.Bool.{Bool, true, false}
 use mathlib.Core.List.{List, [], _∷_, _++_, append-assoc, append-nil}
 use Prim.Native.Nat.{ℕ, zero, suc, _+_, _-_, _*_, _/_, _%_, _^_, _≤_, _<_}
 use native.Mathlib.Omega.{arith}
-use native.Mathlib.Nat.{pow-suc, zero-add, not-le-of-lt}
+use native.Mathlib.Nat.{pow-suc, zero-add, not-le-of-lt, eq-zero-or-pos}
 use native.Mathlib.Numerals.{add-one}
-use lib.Dec.{eqb}
-use borrow.Author.Tests.{eqb-true, eqb-false}
 use lib.ListN.{length, getD, take, drop, set, replicate, length-set, length-replicate, getD-replicate}
 use lib.Seq.{take-all, take-suc-set, drop-set-lt, drop-cons, drop-length, getD-set-same, getD-set-other}
+use Rattle.ways.proofs.Cases.{same-or-not}
 use Rattle.text.specs.Decimal.{decimal, worth, digitCount, Digits}
 use Rattle.text.specs.Printed.{Printed}
 use Rattle.text.proofs.Printing.{Printing, starts, byte, done, same-bytes}
 use Rattle.text.proofs.Spelling.{decimal-one, worth-more}
-
-zero-or-some : (n : ℕ) → (n ≡ 0) ⊎ (0 < n)
-zero-or-some zero = inl refl
-zero-or-some (suc n) = inr (omega arith)
-
-same-or-not : (a b : ℕ) → (a ≡ b) ⊎ (a ≡ b → ⊥)
-same-or-not a b = go (eqb a b) refl
-  where
-    go : (t : Bool) → eqb a b ≡ t → (a ≡ b) ⊎ (a ≡ b → ⊥)
-    go true e = inl (eqb-true a b e)
-    go false e = inr (eqb-false a b e)
 
 -- what digits are worth with so much above them
 unfoldable pub above : List ℕ → ℕ → ℕ
@@ -94,7 +81,7 @@ module _ {counted₀ : List ℕ} {more : ℕ} {counted : List ℕ} {carry i : �
   on-ends h small =
       let e : i ≡ length counted = omega (arith, k .digits .long, k .within) in
       let all : above counted carry ≡ worth counted₀ + more = last e (k .right) in
-      let none : carry ≡ 0 = ⊎-elim (λ z. z) (λ some. absurd (not-le-of-lt small (rw (k .digits .long) at (rw all at (above-big counted carry some))))) (zero-or-some carry) in
+      let none : carry ≡ 0 = ⊎-elim (λ z. z) (λ some. absurd (not-le-of-lt small (rw (k .digits .long) at (rw all at (above-big counted carry some))))) (eq-zero-or-pos carry) in
       sym (above-none counted) ∙ ap (above counted) (sym none) ∙ all
     where
       last : i ≡ length counted → above (take i counted) (worth (drop i counted) + carry) ≡ worth counted₀ + more → above counted carry ≡ worth counted₀ + more

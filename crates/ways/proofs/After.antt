@@ -2,7 +2,7 @@
 use mathlib.Core.Path.{_≡_, refl, sym, ap, subst, _∙_}
 use mathlib.Core.Logic.{_≢_, _⊎_, inl, inr}
 use mathlib.Core.Bool.{Bool, true, false, true≢false, cond}
-use mathlib.Core.List.{List, [], _∷_, _++_, map, flatMap, List·Memᴰ·head, List·Memᴰ·tail}
+use mathlib.Core.List.{List, [], _∷_, _++_, map, flatMap, List·Memᴰ·head, List·Memᴰ·tail, Memᴰ·of-map}
 use Prim.Native.Nat.{ℕ, suc, _<_}
 use native.Mathlib.Omega.{arith}
 use borrow.Author.Tests.{eq-eqb, ne-eqb, le-ltb}
@@ -77,16 +77,30 @@ after-map x b (c ∷ L) = rw (before-same x b c, after-map x b L) (go (before b 
     go true = refl
     go false = refl
 
+-- the fresh start: chains that begin with s all follow it
+pub after-start : (s : ℕ) (L : List (List ℕ)) → after [] (map (_∷_ s) L) ≡ map (_∷_ s) L
+unfolding after before
+after-start s [] = refl
+after-start s (c ∷ L) = ap (_∷_ (s ∷ c)) (after-start s L)
+
+-- whoever has the smaller number does not stand behind
+less-not-behind : {x y : ℕ} {b w : List ℕ} → y < x → ¬ Before (x ∷ b) (y ∷ w)
+less-not-behind l (less i) = omega arith
+less-not-behind l (same e i) = omega arith
+
+-- what goes on with v, who stands before the bookmark's next person, or behind him
+pub after-before : (x v : ℕ) (b : List ℕ) (ws : List (List ℕ)) → v < x → after (x ∷ b) (map (_∷_ v) ws) ≡ []
+after-before x v b ws h = after-none (x ∷ b) (map (_∷_ v) ws) (λ c m. let r = Memᴰ·of-map (_∷_ v) ws m in λ q. less-not-behind h (subst (λ d. Before (x ∷ b) d) (sym (r .2)) q))
+
+pub after-behind : (x v : ℕ) (b : List ℕ) (ws : List (List ℕ)) → x < v → after (x ∷ b) (map (_∷_ v) ws) ≡ map (_∷_ v) ws
+after-behind x v b ws h = after-all (x ∷ b) (map (_∷_ v) ws) (λ c m. let r = Memᴰ·of-map (_∷_ v) ws m in subst (λ d. Before (x ∷ b) d) (r .2) (less h))
+
 module _ (f : ℕ → List (List ℕ)) (heads : (y : ℕ) → Heads y (f y)) where
   pub after-below : (x : ℕ) (b : List ℕ) (lo : List ℕ) → ((y : ℕ) → y ∈ lo → y < x) → after (x ∷ b) (flatMap f lo) ≡ []
   after-below x b lo h = after-none (x ∷ b) (flatMap f lo) (λ c m. step c (flatMap-from f lo m))
     where
-      no : (y : ℕ) (w : List ℕ) → y < x → ¬ Before (x ∷ b) (y ∷ w)
-      no y w l (less i) = omega arith
-      no y w l (same e r) = omega arith
-
       step : (c : List ℕ) → (y : ℕ) × (y ∈ lo) × (c ∈ f y) → ¬ Before (x ∷ b) c
-      step c q r = let u = heads (q .0) c (q .2) in no (q .0) (u .0) (h (q .0) (q .1)) (subst (λ d. Before (x ∷ b) d) (u .1) r)
+      step c q r = let u = heads (q .0) c (q .2) in less-not-behind (h (q .0) (q .1)) (subst (λ d. Before (x ∷ b) d) (u .1) r)
 
   pub after-above : (x : ℕ) (b : List ℕ) (hi : List ℕ) → ((y : ℕ) → y ∈ hi → x < y) → after (x ∷ b) (flatMap f hi) ≡ flatMap f hi
   after-above x b hi h = after-all (x ∷ b) (flatMap f hi) (λ c m. step c (flatMap-from f hi m))

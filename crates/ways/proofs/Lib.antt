@@ -1,4 +1,5 @@
 -- The laws that the other rooms cite.
+pub mod Cases
 pub mod Members
 pub mod Cut
 pub mod Way
@@ -11,6 +12,7 @@ pub mod Barrier
 pub mod Reach
 pub mod Fewest
 pub mod Records
+pub mod Many
 pub mod ByHops
 pub mod Halves
 pub mod Onward

@@ -4,9 +4,9 @@ use mathlib.Core.Logic.{_≢_, _↔_, _⊎_, inl, inr}
 use mathlib.Core.List.{List, [], _∷_, _++_, tail-eq-of-cons-eq, List·Memᴰ·head, List·Memᴰ·tail, List·Memᴰ·not-nil, List·Memᴰ·cases-cons, List·Memᴰ·eq-of-singleton, Memᴰ·map, Memᴰ·of-map, Memᴰ·cast}
 use Prim.Native.Nat.{ℕ, zero, suc, _≤_}
 use native.Mathlib.Omega.{arith}
-use lib.ListN.{length}
+use lib.ListN.{length, getD}
 use Rattle.ways.specs.Graph.{Graph, _∈_}
-use Rattle.ways.specs.Chain.{Last, Linked, Distinct, Chain}
+use Rattle.ways.specs.Chain.{Last, Linked, Distinct, Chain, hops}
 use Rattle.ways.specs.Listing.{ways, listing}
 use Rattle.ways.proofs.Members.{out}
 use Rattle.ways.proofs.Cut.{last-right, distinct-apart}
@@ -33,6 +33,17 @@ pub last-in : {t : ℕ} (w : List ℕ) → Last t w → t ∈ w
 last-in [] h = absurd h
 last-in (q ∷ []) h = List·Memᴰ·head (sym h)
 last-in (q ∷ r ∷ w) h = List·Memᴰ·tail (last-in (r ∷ w) h)
+
+-- it stands behind as many as there are hops, whatever follows
+pub last-at : (t : ℕ) (c z : List ℕ) → Last t c → getD (c ++ z) (hops c) 0 ≡ t
+last-at t [] z h = absurd h
+last-at t (p ∷ []) z h = h
+last-at t (p ∷ q ∷ c) z h = last-at t (q ∷ c) z h
+
+-- a way ends at t
+pub way-last : {g : Graph} {t k p : ℕ} {seen w : List ℕ} → Way g t k seen p w → Last t w
+way-last (ends m e) = e
+way-last {t = t} (goes {v = v} {w = w} m n o r) = last-cons t v w (way-last r)
 
 pub way-rest : {g : Graph} {t k p : ℕ} {seen w : List ℕ} → Way g t k seen p w → ¬ (t ∈ seen) → Rest g t k seen p w
 way-rest {t = t} (ends {k = k} {v = v} {seen = seen} m e) o = record { linked = (m, tt); last = e; once = (List·Memᴰ·not-nil, tt); apart = λ x i j. o (Memᴰ·cast (sym (List·Memᴰ·eq-of-singleton i ∙ e)) j); few = omega arith }

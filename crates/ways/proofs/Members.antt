@@ -73,7 +73,7 @@ swap u v l x (List·Memᴰ·tail (List·Memᴰ·head e)) = List·Memᴰ·head e
 swap u v l x (List·Memᴰ·tail (List·Memᴰ·tail m)) = List·Memᴰ·tail (List·Memᴰ·tail m)
 
 -- a row in two parts
-pub flatMap-append : (f : ℕ → List (List ℕ)) (l m : List ℕ) → flatMap f (l ++ m) ≡ flatMap f l ++ flatMap f m
+pub flatMap-append : {A B : Type 0} (f : A → List B) (l m : List A) → flatMap f (l ++ m) ≡ flatMap f l ++ flatMap f m
 unfolding flatMap
 flatMap-append f [] m = refl
 flatMap-append f (x ∷ l) m = rw (flatMap-append f l m, append-assoc)

@@ -22,13 +22,14 @@ module _ {A : Type 0} where
   lastOr-append b [] m = refl
   lastOr-append b (x ∷ l) m = lastOr-append x l m
 
+  -- it is one of them
+  pub lastOr-in : (x : A) (l : List A) → lastOr x l ∈ x ∷ l
+  lastOr-in x [] = List·Memᴰ·head refl
+  lastOr-in x (y ∷ l) = List·Memᴰ·tail (lastOr-in y l)
+
   pub lastOr-cases : (b : A) (l : List A) → (lastOr b l ≡ b) ⊎ (lastOr b l ∈ l)
   lastOr-cases b [] = inl refl
-  lastOr-cases b (x ∷ l) = inr (step (lastOr-cases x l))
-    where
-      step : (lastOr x l ≡ x) ⊎ (lastOr x l ∈ l) → lastOr x l ∈ x ∷ l
-      step (inl e) = List·Memᴰ·head e
-      step (inr m) = List·Memᴰ·tail m
+  lastOr-cases b (x ∷ l) = inr (lastOr-in x l)
 
 -- after the last of the first r stands the rest
 pub after-last : (b : List ℕ) (r : ℕ) (L : List (List ℕ)) → Rising Before L → ((c : List ℕ) → c ∈ L → Before b c) → after (lastOr b (take r L)) L ≡ drop r L

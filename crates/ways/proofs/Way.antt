@@ -2,8 +2,10 @@
 use mathlib.Core.Path.{_≡_, refl, subst}
 use mathlib.Core.Logic.{_≢_, _⊎_, inl, inr}
 use mathlib.Core.Bool.{Bool, true, false, cond}
-use mathlib.Core.List.{List, [], _∷_, map, List·Memᴰ·head, List·Memᴰ·not-nil, List·Memᴰ·eq-of-singleton, Memᴰ·map, Memᴰ·of-map}
-use Prim.Native.Nat.{ℕ, zero, suc}
+use mathlib.Core.List.{List, [], _∷_, map, flatMap, List·Memᴰ·head, List·Memᴰ·not-nil, List·Memᴰ·eq-of-singleton, Memᴰ·map, Memᴰ·of-map}
+use Prim.Native.Nat.{ℕ, zero, suc, _-_, _≤_}
+use native.Mathlib.Omega.{arith}
+use native.Mathlib.Numerals.{sub-one}
 use lib.Dec.{eqb}
 use borrow.Author.Tests.{eqb-true, eqb-false, eq-eqb, ne-eqb}
 use Rattle.ways.specs.Graph.{Graph, _∈_, among}
@@ -68,3 +70,9 @@ none g t k p seen n = go (ways g t k seen p) (λ w m. n w (way-from g t k p seen
     go : (l : List (List ℕ)) → ((w : List ℕ) → w ∈ l → ⊥) → l ≡ []
     go [] n = refl
     go (w ∷ l) n = absurd (n w (List·Memᴰ·head refl))
+
+-- by the links of a person
+pub ways-links : (g : Graph) (t k : ℕ) (seen : List ℕ) (p : ℕ) → 1 ≤ k → ways g t k seen p ≡ flatMap (by t seen (ways g t (k - 1))) (g p)
+unfolding ways
+ways-links g t zero seen p h = absurd (omega arith)
+ways-links g t (suc k) seen p h = rw sub-one

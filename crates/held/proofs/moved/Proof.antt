@@ -2,7 +2,8 @@
 use native.Mathlib.Omega.{arith}
 use mathlib.Core.Path.{ap}
 use Rattle.portion.specs.Answers.{answerSaid}
-use Rattle.held.proofs.Telling.{last-within, moved-refused, moved-none, moved-some}
+use Rattle.portion.proofs.Telling.{last-within}
+use Rattle.held.proofs.Telling.{moved-refused, moved-none, moved-some}
 use borrow.Author.Needs.{needs}
 use Rattle.held.proofs.moved.Statement.{statement}
 use Rattle.held.proofs.moved.Tie as tie

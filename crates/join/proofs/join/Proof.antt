@@ -1,6 +1,5 @@
 -- The refusals come in their order; what is left is the join over the graph.
 use borrow.Author.Needs.{needs}
-use native.Mathlib.Omega.{arith}
 use Rattle.join.proofs.Public.{join-refused, join-short, join-counts, join-fill, join-passed, join-joins}
 use Rattle.join.proofs.join.Statement.{statement}
 use Rattle.join.proofs.join.Tie as tie

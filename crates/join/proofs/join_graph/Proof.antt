@@ -1,6 +1,5 @@
 -- The half chains are counted, then written, and the chains gathered: each call gives what the next one asks.
 use borrow.Author.Needs.{needs}
-use native.Mathlib.Omega.{arith}
 use mathlib.Core.Path.{refl, sym, _∙_}
 use Prim.Native.Nat.{ℕ, suc}
 use lib.ListN.{length-replicate}

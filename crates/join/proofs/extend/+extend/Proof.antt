@@ -4,7 +4,6 @@ use native.Mathlib.Omega.{arith}
 use borrow.Author.Tests.{not-true, not-false}
 use mathlib.Core.Path.{_∙_}
 use Prim.Native.Nat.{_-_}
-use lib.ListN.{length-set}
 use Rattle.join.proofs.Steps.{Turning, extend-arrived, extend-start, extend-person, extend-going, extend-skip, extend-turn, extend-stop, extend-end}
 use Prim.Native.Nat.{ℕ, _<_}
 use borrow.Fn.Kinds.{In}

@@ -1,6 +1,5 @@
 -- The half chains that begin with p are what may follow p, with p before it.
 use borrow.Author.Needs.{needs}
-use native.Mathlib.Omega.{arith}
 use Rattle.join.proofs.Shelving.{begin-marked, begin-going, begin-begun}
 use Rattle.join.proofs.halves.begin.Statement.{statement}
 use Rattle.join.proofs.halves.begin.Tie as tie

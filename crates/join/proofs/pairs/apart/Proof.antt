@@ -1,7 +1,7 @@
 -- Nobody is marked if nobody of those still to be looked at is.
 use borrow.Author.Needs.{needs}
 use native.Mathlib.Omega.{arith}
-use Prim.Native.Nat.{_-_, _+_}
+use Prim.Native.Nat.{_-_}
 use Rattle.join.proofs.Steps.{Looking, look-start, look-person, look-marked, look-on, look-end}
 use Rattle.join.proofs.pairs.apart.Statement.{statement}
 use Rattle.join.proofs.pairs.apart.Tie as tie

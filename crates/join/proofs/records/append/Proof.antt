@@ -1,9 +1,9 @@
 -- `append` copies the cells one by one: after i turns the first i are pasted.
 use borrow.Author.Needs.{needs}
-use native.Mathlib.Omega.{arith}
 use Prim.Native.Nat.{_-_}
 use lib.ListN.{drop}
-use Rattle.join.proofs.Writing.{Copying, copy-none, copy-length, copy-fits, copy-end, append-long, append-turn}
+use Rattle.pages.proofs.Copying.{Copying, copy-none, copy-length, copy-fits, copy-end}
+use Rattle.join.proofs.Writing.{append-long, append-turn}
 use Rattle.join.proofs.records.append.Statement.{statement}
 use Rattle.join.proofs.records.append.Tie as tie
 

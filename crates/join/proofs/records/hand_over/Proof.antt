@@ -1,6 +1,5 @@
 -- A chain that is handed over is noted, counted, or written cell by cell.
 use borrow.Author.Needs.{needs}
-use native.Mathlib.Omega.{arith}
 use mathlib.Core.Path.{_∙_}
 use lib.ListN.{length-set}
 use Rattle.join.proofs.Writing.{hand-full, hand-count, hand-fits, hand-behind, hand-put}

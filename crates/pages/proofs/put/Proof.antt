@@ -2,9 +2,9 @@
 use borrow.Author.Needs.{needs}
 use Prim.Native.Nat.{_-_}
 use Rattle.ways.specs.Sizes.{recordSize}
-use Rattle.join.proofs.Writing.{Copying, copy-none, copy-length, copy-fits, copy-turn, copy-end}
-use Rattle.join.proofs.records.put.Statement.{statement}
-use Rattle.join.proofs.records.put.Tie as tie
+use Rattle.pages.proofs.Copying.{Copying, copy-none, copy-length, copy-fits, copy-turn, copy-end}
+use Rattle.pages.proofs.put.Statement.{statement}
+use Rattle.pages.proofs.put.Tie as tie
 
 abbrev Inv-loop : tie.InvT-loop
 Inv-loop out₀ at chain i₀ out i = Copying out₀ at chain recordSize out i

@@ -1,52 +1,60 @@
--- From the account of what was handed over to the cells: records of chains, the first of them where there is room.
+-- Handing over records while there is room: what was handed over in parts was handed over at once, nothing more once one was noted, and
+-- of chains the first are written where there is room.
 use mathlib.Core.Path.{_≡_, refl, sym, ap, _∙_}
 use mathlib.Core.Bool.{Bool, true, false, cond}
 use mathlib.Core.List.{List, [], _∷_, _++_, map, append-assoc, List·Memᴰ·head, List·Memᴰ·tail}
 use mathlib.Core.Logic.{⊎-elim}
-use Prim.Native.Nat.{ℕ, zero, suc, _+_, _-_, _*_, _/_, _≤_, _<_, min}
-use lib.ListN.{length, set, take, drop, replicate, length-append, length-drop, length-take}
-use lib.Seq.{paste, take-nil, take-all, take-at, take-length, drop-append-add, drop-drop}
-use lib.Dec.{eqb, ltb, leb}
+use Prim.Native.Nat.{ℕ, zero, suc, _+_, _*_, _/_, _≤_, min}
+use lib.ListN.{length, take, drop, length-append, length-drop, length-take}
+use lib.Seq.{paste, take-nil, take-all, take-at, drop-append-add, drop-drop}
+use lib.Dec.{eqb, ltb}
 use native.Mathlib.Omega.{arith}
-use native.Mathlib.Nat.{add-zero, zero-add, zero-min, min-zero, suc-min-suc, sub-zero}
-use native.Mathlib.Numerals.{add-one, one-add}
-use borrow.Author.Tests.{eq-eqb, ne-eqb, lt-ltb, le-ltb, le-leb, lt-leb}
+use native.Mathlib.Nat.{add-zero, zero-add, zero-min, min-zero, suc-min-suc}
+use borrow.Author.Tests.{eq-eqb, ne-eqb, lt-ltb, le-ltb}
 use Rattle.ways.specs.Graph.{_∈_}
-use Rattle.ways.specs.Chain.{hops}
 use Rattle.ways.specs.Records.{recordOf, Fits, cellsOf, written}
 use Rattle.ways.specs.Sizes.{recordSize}
+use Rattle.ways.proofs.Cases.{same-or-not, lt-or-le}
 use Rattle.ways.proofs.Records.{length-recordOf}
-use Rattle.join.specs.Pages.{Page, page, emit, emits, recordWith}
-use Rattle.join.specs.Shelf.{blank, nothing}
-use Rattle.join.proofs.Cases.{lt-or-le}
-use Rattle.join.proofs.Writing.{emits-more, recordWith-more}
+use Rattle.pages.specs.Pages.{Page, emit, emits}
 
--- ---- one record
+-- what is handed over in two parts
+pub emits-append : (writes room : ℕ) (s : Page) (xs ys : List (List ℕ)) → emits writes room s (xs ++ ys) ≡ emits writes room (emits writes room s xs) ys
+unfolding emits
+emits-append writes room s [] ys = refl
+emits-append writes room s (x ∷ xs) ys = emits-append writes room (emit writes room s x) xs ys
 
-drop-zeros : (n m : ℕ) → drop {A = ℕ} n (replicate m 0) ≡ replicate (m - n) 0
-drop-zeros zero m = rw sub-zero
-drop-zeros (suc n) zero = let e : 0 - suc n ≡ 0 = omega arith in rw e
-drop-zeros (suc n) (suc m) = let e : suc m - suc n ≡ m - n = omega arith in rw e (drop-zeros n m)
+-- once one more was noted, nothing is
+pub emits-more : (writes room : ℕ) (s : Page) (xs : List (List ℕ)) → (s .more ≡ 0 → ⊥) → emits writes room s xs ≡ s
+unfolding emits
+emits-more writes room s [] e = refl
+emits-more writes room s (x ∷ xs) e =
+    let same : emit writes room s x ≡ s = rw (ne-eqb (s .more) 0 e) in
+    rw same (emits-more writes room s xs e)
 
-pub recordWith-blank : (c : List ℕ) → Fits recordSize c → recordWith blank 0 c ≡ recordOf recordSize c
-unfolding recordWith recordOf
-recordWith-blank [] f = absurd (omega (arith, f .some))
-recordWith-blank (p ∷ c) f =
-    let n : 0 + suc (length c) - 1 ≡ length c = omega arith in
-    let zeros : drop (1 + suc (length c)) blank ≡ replicate (recordSize - suc (suc (length c))) 0 = rw (one-add (suc (length c))) (drop-zeros (suc (length c)) (recordSize - 1) ∙ ap (λ (m : ℕ). replicate m 0) (let e : recordSize - 1 - suc (length c) ≡ recordSize - suc (suc (length c)) = omega arith in e)) in
-    ap (λ (m : ℕ). m ∷ ((p ∷ take (length c) c) ++ drop (1 + suc (length c)) blank)) n
-    ∙ ap (λ (l : List ℕ). length c ∷ ((p ∷ l) ++ drop (1 + suc (length c)) blank)) (take-length c)
-    ∙ ap (λ (l : List ℕ). length c ∷ ((p ∷ c) ++ l)) zeros
+-- with nothing noted, all were counted
+pub emits-counted : (writes room : ℕ) (s : Page) (xs : List (List ℕ)) → emits writes room s xs .more ≡ 0 → emits writes room s xs .count ≡ s .count + length xs
+unfolding emits
+emits-counted writes room s [] m = sym (add-zero (s .count))
+emits-counted writes room s (x ∷ xs) m =
+    ⊎-elim
+    (λ e. ⊎-elim
+    (λ l. let one : emit writes room s x .count ≡ s .count + 1 = rw (eq-eqb (s .more) 0 e, lt-ltb (s .count) room l) in
+    omega (arith, emits-counted writes room (emit writes room s x) xs m, one))
+    (λ l. let one : emit writes room s x .more ≡ 1 = rw (eq-eqb (s .more) 0 e, le-ltb (s .count) room l) in
+    let stays : emits writes room (emit writes room s x) xs ≡ emit writes room s x = emits-more writes room (emit writes room s x) xs (λ z. omega (arith, one, z)) in
+    absurd (omega (arith, one, ap (λ (q : Page). q .more) stays, m)))
+    (lt-or-le (s .count) room))
+    (λ ne.
+    let one : emit writes room s x .more ≡ s .more = rw (ne-eqb (s .more) 0 ne) in
+    let stays : emits writes room (emit writes room s x) xs ≡ emit writes room s x = emits-more writes room (emit writes room s x) xs (λ z. ne (sym one ∙ z)) in
+    absurd (ne (sym one ∙ sym (ap (λ (q : Page). q .more) stays) ∙ m)))
+    (same-or-not (s .more) 0)
 
-pub records-blank : (L : List (List ℕ)) → ((c : List ℕ) → c ∈ L → Fits recordSize c) → map (recordWith blank 0) L ≡ map (recordOf recordSize) L
-records-blank [] f = refl
-records-blank (c ∷ L) f = rw (recordWith-blank c (f c (List·Memᴰ·head refl)), records-blank L (λ d m. f d (List·Memᴰ·tail m)))
-
-pub records-first : (from : ℕ) (ws : List (List ℕ)) → ((c : List ℕ) → c ∈ map (_∷_ from) ws → Fits recordSize c) → map (recordWith (set blank 1 from) 1) ws ≡ map (recordOf recordSize) (map (_∷_ from) ws)
-records-first from [] f = refl
-records-first from (w ∷ ws) f =
-    let e : recordWith (set blank 1 from) 1 w ≡ recordOf recordSize (from ∷ w) = recordWith-more blank 0 from w (omega arith) ∙ recordWith-blank (from ∷ w) (f (from ∷ w) (List·Memᴰ·head refl)) in
-    rw (e, records-first from ws (λ d m. f d (List·Memᴰ·tail m)))
+-- nothing more was counted or noted, so there was nothing to hand over
+pub emits-none : (writes room : ℕ) (s : Page) (xs : List (List ℕ)) → emits writes room s xs .more ≡ 0 → emits writes room s xs .count ≡ s .count → xs ≡ []
+emits-none writes room s [] m c = refl
+emits-none writes room s (x ∷ xs) m c = absurd (omega (arith, emits-counted writes room s (x ∷ xs) m, c))
 
 -- ---- only counting: as when writing, and no cell changes
 
@@ -121,11 +129,11 @@ emits-chains (suc d) c front rest (x ∷ L) lf lr f =
 
 -- all at once: how many, whether one more, and the cells
 pub emits-written : (out : List ℕ) (L : List (List ℕ)) → ((x : List ℕ) → x ∈ L → Fits recordSize x)
-    → emits 1 (length out / recordSize) (page nothing out) (map (recordOf recordSize) L)
+    → emits 1 (length out / recordSize) (record { count = 0; more = 0; cells = out }) (map (recordOf recordSize) L)
     ≡ record { count = length (take (length out / recordSize) L); more = cond (ltb (length out / recordSize) (length L)) 1 0; cells = written recordSize (take (length out / recordSize) L) out }
 unfolding written
 emits-written out L f =
     let room = length out / recordSize in
-    ap (λ (n : ℕ). emits 1 n (page nothing out) (map (recordOf recordSize) L)) (sym (zero-add room))
+    ap (λ (n : ℕ). emits 1 n (record { count = 0; more = 0; cells = out }) (map (recordOf recordSize) L)) (sym (zero-add room))
     ∙ emits-chains room 0 [] out L refl (omega arith) f
     ∙ page-eq (zero-add _ ∙ sym (length-take room L)) refl (ap (λ (i : ℕ). cellsOf recordSize (take room L) ++ drop (i * recordSize) out) (sym (length-take room L)))

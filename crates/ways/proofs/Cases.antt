@@ -1,9 +1,8 @@
--- Cases of numbers, and what cannot be.
-use mathlib.Core.Path.{_≡_, refl, ap}
-use mathlib.Core.Bool.{Bool, true, false, cond}
+-- Cases of numbers.
+use mathlib.Core.Path.{_≡_, refl}
+use mathlib.Core.Bool.{Bool, true, false}
 use mathlib.Core.Logic.{_⊎_, inl, inr}
 use Prim.Native.Nat.{ℕ, _≤_, _<_}
-use native.Mathlib.Omega.{arith}
 use native.Mathlib.Decide.{ℕ-discrete}
 use lib.Dec.{ltb}
 use borrow.Author.Tests.{ltb-true, ltb-false}
@@ -21,6 +20,3 @@ lt-or-le a b = go (ltb a b) refl
     go : (c : Bool) → ltb a b ≡ c → (a < b) ⊎ (b ≤ a)
     go true e = inl (ltb-true a b e)
     go false e = inr (ltb-false a b e)
-
-pub never : {A : Type 0} → false ≡ true → A
-never e = let z : _≡_ {A = ℕ} 0 1 = ap (λ b. cond b 1 0) e in absurd (omega arith)

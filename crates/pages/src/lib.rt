@@ -1,0 +1,23 @@
+// The page: records one behind the other in lent cells, while there is room.
+//
+// The search and the join hand over chains in the same way: each is counted and its record written, and the first for which there
+// is no room is noted. specs/ says it once for both (`emit`, `emits`), proofs/ has the laws: what is handed over in parts is handed
+// over at once, and records of chains handed over are the first chains, written from cell 0. The step that both share in code is here.
+ghost use mathlib.Core.Path.{_≡_};
+ghost use Prim.Native.Nat.{_+_, _≤_};
+ghost use lib.ListN.{length};
+ghost use lib.Seq.{paste};
+ghost use Rattle.ways.specs.Sizes.{recordSize};
+use ways::RECORD;
+
+// Copies the cells of the chain to `out`, from cell `at` on.
+pub fn put(out: &mut [u32], at: usize, chain: [u32; RECORD])
+    requires { ⌜ at + recordSize ≤ length (now out) ⌝ }
+    ensures { λ _. ⌜ now (out .exit) ≡ paste (now (out .entry)) at chain recordSize ⌝ }
+{
+    let mut i = 0;
+    while i < RECORD {
+        out[at + i] = chain[i];
+        i += 1;
+    }
+}
