@@ -3,7 +3,7 @@
 
 #include "../plain/check.h"
 #include "../plain/clock.h"
-#include "../plain/kin.h"
+#include "../../include/kin.h"
 #include <stdio.h>
 
 enum { TURNS = 200, CALLS_A_TURN = 20 };

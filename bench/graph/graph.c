@@ -4,7 +4,7 @@
 
 #include "../plain/clock.h"
 #include "../plain/graph.h"
-#include "../plain/kin.h"
+#include "../../include/kin.h"
 #include <stdio.h>
 
 enum { TURNS = 300, CALLS_A_TURN = 20 };

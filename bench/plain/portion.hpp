@@ -2,7 +2,7 @@
 #pragma once
 #include "check.h"
 #include "graph.h"
-#include "kin.h"
+#include "../../include/kin.h"
 #include "search.hpp"
 #include "shapes.hpp"
 

@@ -5,6 +5,8 @@
 // left is in no chain. The table is found on the compact graph alone, which `question` fills.
 pub mod table;
 
+use compact::LINKS;
+use compact::STARTS;
 use linkfile::Fault;
 use linkfile::Verdict;
 use linkfile::header;
@@ -47,8 +49,8 @@ fn counted(file: &[u8], question: Question, person: u32) -> u32
     requires { ⌜ Passes (now file) question person ⌝ }
     ensures { λ r. ⌜ r ≡ fewest (next (now (file .entry)) question) (question .to) (question .hops) person ⌝ }
 {
-    let mut starts = [0u16; 1025];
-    let mut targets = [0u16; 4096];
+    let mut starts = [0u16; STARTS];
+    let mut targets = [0u16; LINKS];
     filling::fill(
         file,
         header::counts(file),

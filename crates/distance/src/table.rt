@@ -1,4 +1,5 @@
 // The distance table, breadth-first towards To: by rounds, each one hop farther than the last.
+use compact::PERSONS;
 ghost use mathlib.Core.Path.{_≡_};
 ghost use Rattle.compact.specs.Compact.{graphOf};
 ghost use Rattle.distance.specs.Table.{Table, Stepped, anybody};
@@ -29,7 +30,7 @@ fn round(starts: &[u16], targets: &[u16], most: u8, hops: u8, cells: &mut [u8]) 
 {
     let mut added = false;
     let mut person = 0;
-    while person < 1024 {
+    while person < PERSONS {
         if cells[person] == most + 1 {
             if leads(starts, targets, cells, person, hops) {
                 cells[person] = hops + 1;

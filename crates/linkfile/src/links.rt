@@ -15,6 +15,9 @@ ghost use Rattle.linkfile.specs.Verdict.{faultSaid, firstAmong};
 ghost use Rattle.linkfile.specs.Checked.{targetRises, linkRuled, linkFault, ownedFault};
 ghost use Rattle.linkfile.specs.Inside.{Owned, Rowed};
 
+// The last day that a link or a question can name: 31 December 9999.
+pub const LAST_DAY: u32 = 3_652_059;
+
 // The place in the file of a link, by its number through the whole file.
 pub fn place(counts: Counts, link: usize) -> usize
     requires { ⌜ (counts .persons ≤ 1024) × (counts .feeds ≤ 16) × (link ≤ 4096) ⌝ }
@@ -108,7 +111,7 @@ fn link_fault(file: &[u8], counts: Counts, owner: usize, first: usize, link: usi
     if !known(kind(file, at)) {
         return Fault::At(8, link as u32);
     }
-    if 3652059 < day(file, at) {
+    if LAST_DAY < day(file, at) {
         return Fault::At(9, link as u32);
     }
     Fault::Sound

@@ -10,7 +10,7 @@ use Rattle.held.specs.declared.Held.{Held}
 use Rattle.held.specs.Holding.{MovedOn}
 use Rattle.outside.specs.Encoded.{asking, listedNumber}
 
--- the ten cells of a record, from a cell on
+-- the ten cells of a record, one by one
 abbrev pub tenFrom : List ℕ → ℕ → ℕ → ℕ → ℕ → ℕ → ℕ → ℕ → ℕ → ℕ → ℕ → List ℕ
 tenFrom cells a b c d e f g h i j =
     getD cells a 0 ∷ getD cells b 0 ∷ getD cells c 0 ∷ getD cells d 0 ∷ getD cells e 0 ∷ getD cells f 0 ∷ getD cells g 0 ∷ getD cells h 0 ∷ getD cells i 0 ∷ getD cells j 0 ∷ []

@@ -17,10 +17,10 @@ use Rattle.linkfile.specs.Inside.{Laid}
 use Rattle.linkfile.specs.declared.Counts.{Counts}
 use Rattle.linkfile.proofs.Passed.{Passed, sound-rules, Lies, row-lies}
 use Rattle.linkfile.proofs.Linked.{Link, passed-link}
-use Rattle.compact.specs.Compact.{persons, graphOf}
+use Rattle.compact.specs.Compact.{persons, graphOf, links as mostLinks}
 use Rattle.question.specs.Admission.{admitted, numbersFrom, next}
 use Rattle.question.specs.Inside.{Fed}
-use Rattle.question.specs.Filled.{mostLinks, People, Fillable, Appendable, Appended, Filled}
+use Rattle.question.specs.Filled.{People, Fillable, Appendable, Appended, Filled}
 use Rattle.question.specs.declared.Question.{Question}
 use Rattle.question.proofs.Leads.{led, next-none, next-some, next-rising}
 

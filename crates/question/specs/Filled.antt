@@ -8,7 +8,7 @@ use Rattle.linkfile.specs.Verdict.{sound}
 use Rattle.linkfile.specs.Checked.{fileFault}
 use Rattle.linkfile.specs.Inside.{Laid}
 use Rattle.linkfile.specs.declared.Counts.{Counts}
-use Rattle.compact.specs.Compact.{persons, graphOf, Compact}
+use Rattle.compact.specs.Compact.{persons, links as mostLinks, graphOf, Compact}
 use Rattle.question.specs.Admission.{next}
 use Rattle.question.specs.declared.Question.{Question}
 
@@ -16,10 +16,6 @@ use Rattle.question.specs.declared.Question.{Question}
 pub record Filled (file : List ℕ) (q : Question) (starts targets : List ℕ) : Type 0 where
   pub graph : (person : ℕ) → graphOf starts targets person ≡ next file q person
   pub compact : Compact starts targets
-
--- as many links as a file can have
-abbrev pub mostLinks : ℕ
-mostLinks = 4096
 
 -- each cell is the number of a person, as a zero is
 abbrev pub People : List ℕ → Type 0

@@ -2,6 +2,7 @@
 // names a person more, both begin with the ends and close with the rest.
 use crate::Question;
 use linkfile::Fault;
+use linkfile::links::LAST_DAY;
 use linkfile::numbers;
 use ways::HOPS;
 ghost use mathlib.Core.Path.{_≡_};
@@ -31,7 +32,7 @@ fn days_fit(question: Question) -> bool
     if question.first < 1 {
         return false;
     }
-    if 3652059 < question.last {
+    if LAST_DAY < question.last {
         return false;
     }
     question.first <= question.last

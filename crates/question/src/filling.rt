@@ -1,6 +1,7 @@
 // From bytes to the compact graph: one pass over the links.
 use crate::Question;
 use crate::admission;
+use compact::PERSONS;
 use linkfile::Counts;
 use linkfile::links;
 use linkfile::rows;
@@ -49,7 +50,7 @@ pub fn fill(
     let mut person = 0;
     let mut end = 0;
     starts[0] = 0;
-    while person < 1024 {
+    while person < PERSONS {
         end = append(file, counts, question, person, end, targets);
         person += 1;
         starts[person] = end as u16;
