@@ -181,6 +181,31 @@ pub fn random_graph(random: &mut Random, persons: usize, parts: usize) -> LinkFi
     undated(persons, &pairs)
 }
 
+/// Every person linked with every other.
+pub fn everybody_linked(persons: usize) -> LinkFile {
+    let all = 0..persons as u32;
+    let pairs: Vec<(u32, u32)> = all
+        .clone()
+        .flat_map(|owner| all.clone().map(move |target| (owner, target)))
+        .filter(|(owner, target)| owner != target)
+        .collect();
+    undated(persons, &pairs)
+}
+
+/// Links both ways, as between relatives: ways close and reopen more often than in other graphs.
+pub fn two_way_family(random: &mut Random, persons: usize) -> LinkFile {
+    let mut pairs = vec![];
+    for _ in 0..random.between(persons, 2 * persons) {
+        let (one, other) = (random.below(persons) as u32, random.below(persons) as u32);
+        if one != other {
+            pairs.extend([(one, other), (other, one)]);
+        }
+    }
+    pairs.sort();
+    pairs.dedup();
+    undated(persons, &pairs)
+}
+
 /// A file with all counts at their limits and four links a person.
 pub fn largest() -> LinkFile {
     let rows = (0..MOST_PERSONS)

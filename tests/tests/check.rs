@@ -4,13 +4,14 @@
 //! file and at first, middle and last place of the largest; every pair of faults, both ways round; every truncation of
 //! the six-person file and of a largest one; trailing bytes; every single-byte change of the six-person file and many of
 //! two bytes; every kind, archive number and feed index; random damage; the empty slice, the null pointer, odd addresses,
-//! and files behind which nothing may be read. That the file stays as it came is asked in every call.
+//! and files before or behind which nothing may be read. That the file stays as it came is asked in every call.
 
 use independent::checker::{self, Counts, Refusal, Verdict, LAST_DAY};
+use independent::damage::{damage, damaged, random_byte};
 use independent::faults::{catalogue, shown_behind, with_faults, Fault};
 use independent::files::{self, feed, link, LinkFile};
-use independent::lent::Guarded;
-use independent::outside;
+use independent::lent::VastTail;
+use independent::outside::{self, AT_THE_EDGES};
 use independent::random::Random;
 
 /// Asks the library and the checker, who have to agree.
@@ -554,18 +555,20 @@ fn the_empty_slice_is_1() {
     let right = checker::refused(1, 0);
     refuses(&[], 1, 0, "no bytes");
     assert_eq!(outside::check_null(), right, "no bytes at the null pointer");
-    let unreadable = Guarded::new(&[]);
-    assert_eq!(outside::check_guarded(&unreadable), right);
+    for library in AT_THE_EDGES {
+        assert_eq!(library.check(&[]), right);
+    }
 }
 
-/// Asks with a file that ends where nothing more may be read.
+/// Asks with a file before or behind which nothing may be read.
 fn agree_at_the_edge(file: &[u8]) {
-    let guarded = Guarded::new(file);
-    assert_eq!(outside::check_guarded(&guarded), checker::verdict(file));
+    for library in AT_THE_EDGES {
+        assert_eq!(library.check(file), checker::verdict(file));
+    }
 }
 
 #[test]
-fn nothing_is_read_beyond_the_slice() {
+fn nothing_is_read_beside_the_slice() {
     let shape = files::six_persons();
     let file = shape.bytes();
     for length in 0..=file.len() {
@@ -583,8 +586,8 @@ fn nothing_is_read_beyond_the_slice() {
 #[test]
 fn a_slice_of_more_than_32_bits_of_bytes_is_3() {
     for shape in [files::six_persons(), files::one_person(), files::largest()] {
-        let vast = Guarded::with_vast_tail(&shape.bytes());
-        assert_eq!(outside::check_guarded(&vast), checker::refused(3, 0));
+        let vast = VastTail::new(&shape.bytes(), 1 << 32);
+        assert_eq!(outside::check_vast(&vast), checker::refused(3, 0));
     }
 }
 
@@ -668,10 +671,7 @@ fn random_damage_of_random_files() {
         } else {
             files::random_file(&mut random, 8)
         };
-        let mut file = shape.bytes();
-        for _ in 0..random.between(1, 3) {
-            damage(&mut random, &shape, &mut file);
-        }
+        let file = damaged(&mut random, &shape);
         tally.note(agreed(&file, || format!("round {round}: {file:?}")));
     }
     tally.assert_each_at_least(200);
@@ -692,61 +692,6 @@ fn random_damage_of_largest_files() {
         tally.note(agreed(&file, || format!("round {round}")));
     }
     tally.assert_each_at_least(3);
-}
-
-/// One random change of the bytes. The file may have been damaged and shortened before.
-fn damage(random: &mut Random, shape: &LinkFile, file: &mut Vec<u8>) {
-    let length = file.len();
-    match random.below(12) {
-        0 => file.truncate(random.below(length + 1)),
-        1 => file.extend(vec![random.any() as u8; random.between(1, 20)]),
-        2 => random_byte(random, file, 0, 32),
-        3 => random_byte(random, file, 4, 12),
-        4 => random_byte(random, file, 32, shape.entry_at(0)),
-        5 => random_byte(random, file, shape.entry_at(0), shape.link_at(0)),
-        6 | 7 => random_byte(random, file, shape.link_at(0), shape.length()),
-        8 => random_field(random, shape, file, 10, &[0, 1, 5, 6, 15, 16, 31, 32, 255]),
-        9 => random_field(random, shape, file, 7, &[0, 1, 128, 255]),
-        10 => random_field(random, shape, file, 0, &[0, 1, 2, 3, 4, 5, 6, 7, 8]),
-        _ => swap_links(random, shape, file),
-    }
-}
-
-/// Changes one byte from `first` up to but without `end`, if the file has it.
-fn random_byte(random: &mut Random, file: &mut [u8], first: usize, end: usize) {
-    let end = end.min(file.len());
-    if first < end {
-        let at = random.between(first, end - 1);
-        let near = file[at].wrapping_add(1);
-        let any = random.any() as u8;
-        file[at] = random.one_of(&[0, 1, 2, 3, 17, 255, near, near.wrapping_sub(2), any]);
-    }
-}
-
-/// Changes one byte of a random link to one of the values.
-fn random_field(
-    random: &mut Random,
-    shape: &LinkFile,
-    file: &mut [u8],
-    byte: usize,
-    values: &[u8],
-) {
-    if shape.links() > 0 {
-        let at = shape.link_at(random.below(shape.links())) + byte;
-        if at < file.len() {
-            file[at] = random.one_of(values);
-        }
-    }
-}
-
-fn swap_links(random: &mut Random, shape: &LinkFile, file: &mut [u8]) {
-    if shape.links() > 1 && file.len() >= shape.length() {
-        let one = shape.link_at(random.below(shape.links()));
-        let other = shape.link_at(random.below(shape.links()));
-        for byte in 0..12 {
-            file.swap(one + byte, other + byte);
-        }
-    }
 }
 
 #[test]

@@ -7,104 +7,17 @@
 //! of refusals 1 to 17; what a fresh start ignores. File and bookmark have to stay as they came in every call, and the
 //! output's cells are compared whole.
 
-use independent::checker::{refused, Refusal, LAST_DAY};
+use independent::asked::{cells_of, Asked};
+use independent::checker::{refused, LAST_DAY};
 use independent::faults::{catalogue, with_faults};
 use independent::files::{self, random_graph};
 use independent::lent::untouched;
-use independent::lister::{self, following, listed, listing, record, Chain, Listed, Question};
+use independent::lister::{self, following, listed, record, Chain, Listed, Question};
 use independent::outside;
 use independent::questions::{
     first_to_last, numbers_of, question_faults, question_of, random_question, Q,
 };
 use independent::random::Random;
-
-type Answer = Result<Listed, Refusal>;
-
-/// A file, a question and its listing by brute force.
-struct Asked {
-    file: Vec<u8>,
-    question: Question,
-    listing: Result<Vec<Chain>, Refusal>,
-}
-
-impl Asked {
-    fn new(file: Vec<u8>, question: Question) -> Asked {
-        let listing = listing(&file, &question);
-        Asked {
-            file,
-            question,
-            listing,
-        }
-    }
-
-    fn six_persons(question: Question) -> Asked {
-        Asked::new(files::six_persons().bytes(), question)
-    }
-
-    fn chains(&self) -> &[Chain] {
-        self.listing.as_ref().expect("the question passes")
-    }
-
-    /// Asks the library for a portion and holds answer and cells against the lister's; gives both back.
-    fn portion(&self, started: u32, bookmark: &[u32], cells: usize) -> (Answer, Vec<u32>) {
-        let mut out = untouched(cells);
-        let mut right_out = out.clone();
-        let told = outside::portion(&self.file, &self.question, started, bookmark, &mut out);
-        let right = lister::portion(&self.listing, started, bookmark, &mut right_out);
-        assert!(
-            told == right && out == right_out,
-            "{:?}, started {started}, bookmark {bookmark:?}, {cells} cells of {:?}:\ntold {told:?} {out:?}\nright {right:?} {right_out:?}",
-            self.question,
-            self.file
-        );
-        (told, out)
-    }
-
-    /// Hands over the whole listing by portions with these rooms, the last of them again and again.
-    fn by_rooms(&self, rooms: &[usize]) {
-        let mut handed_over: Vec<[u32; 10]> = vec![];
-        let mut rooms = rooms.iter().copied().chain(std::iter::repeat(1));
-        loop {
-            let room = rooms.next().expect("rooms never end");
-            let (answer, out) = match handed_over.last() {
-                None => self.portion(0, &[], 10 * room),
-                Some(last) => self.portion(1, last, 10 * room),
-            };
-            let listed = answer.expect("neither file nor question is refused");
-            for i in 0..listed.count as usize {
-                let cells = &out[10 * i..10 * i + 10];
-                handed_over.push(cells.try_into().expect("ten cells"));
-            }
-            if listed.ended {
-                break;
-            }
-        }
-        let whole: Vec<[u32; 10]> = self.chains().iter().map(|chain| record(chain)).collect();
-        assert_eq!(handed_over, whole, "{:?}", self.question);
-    }
-
-    /// Fresh and after every chain, with several rooms.
-    fn fresh_and_resumed(&self) {
-        let count = self.chains().len();
-        for room in [1, 2, 3, count, count + 1] {
-            if room > 0 {
-                let _ = self.portion(0, &[], 10 * room);
-                for chain in self.chains() {
-                    let _ = self.portion(1, &record(chain), 10 * room);
-                }
-            }
-        }
-    }
-}
-
-/// The records of the chains, then the cells that stay.
-fn cells_of(chains: &[&[u32]], cells: usize) -> Vec<u32> {
-    let mut out = untouched(cells);
-    for (i, chain) in chains.iter().enumerate() {
-        out[10 * i..10 * i + 10].copy_from_slice(&record(chain));
-    }
-    out
-}
 
 // The stated cases.
 
@@ -190,8 +103,9 @@ fn every_question_over_the_six_person_file() {
                     };
                     let asked = Asked::six_persons(question);
                     let _ = asked.portion(0, &[], 100);
-                    if asked.listing.is_ok() {
-                        asked.fresh_and_resumed();
+                    if asked.passes() {
+                        asked.fresh_with_every_room();
+                        asked.resumed_at_every_chain();
                     }
                 }
             }
@@ -205,7 +119,8 @@ fn lists_of_graph(persons: usize, pairs: &[(u32, u32)], hops: u32, chains: &[&[u
     let file = files::undated(persons, pairs).bytes();
     let asked = Asked::new(file, first_to_last(persons, hops));
     assert_eq!(asked.chains(), chains);
-    asked.fresh_and_resumed();
+    asked.fresh_with_every_room();
+    asked.resumed_at_every_chain();
     asked.by_rooms(&[]);
 }
 
@@ -257,7 +172,8 @@ fn several_kinds_in_one_small_graph() {
     file.rows[1][1].kind = 5;
     let asked = Asked::new(file.bytes(), first_to_last(5, 4));
     assert_eq!(asked.chains(), [vec![0, 1, 4], vec![0, 3, 2, 1, 4]]);
-    asked.fresh_and_resumed();
+    asked.fresh_with_every_room();
+    asked.resumed_at_every_chain();
     for classes in 1..=15 {
         let question = Question {
             classes,
@@ -345,7 +261,7 @@ fn every_split_of_small_listings() {
     let mut by_count = [0; 8];
     Asked::six_persons(Q).by_rooms(&[]);
     for _ in 0..15_000 {
-        let asked = random_asked(&mut random, 7);
+        let asked = Asked::random(&mut random, 7);
         let count = asked.chains().len();
         if count < 8 && by_count[count] < 25 {
             by_count[count] += 1;
@@ -364,7 +280,7 @@ fn random_splits_of_larger_listings() {
     let mut longest = 0;
     for round in 0..120 {
         let asked = if round % 2 == 0 {
-            random_asked(&mut random, 9)
+            Asked::random(&mut random, 9)
         } else {
             let persons = random.between(6, 8);
             let parts = random.between(6, 10);
@@ -379,16 +295,6 @@ fn random_splits_of_larger_listings() {
     assert!(longest > 300, "{longest}");
 }
 
-fn random_asked(random: &mut Random, most_persons: usize) -> Asked {
-    loop {
-        let file = files::random_file(random, most_persons);
-        if file.persons() > 1 {
-            let question = random_question(random, file.persons());
-            return Asked::new(file.bytes(), question);
-        }
-    }
-}
-
 // Random files.
 
 #[test]
@@ -396,7 +302,7 @@ fn random_questions_over_random_files() {
     let mut random = Random::of_test("random_questions_over_random_files");
     let mut with_chains = 0;
     for _ in 0..30_000 {
-        let asked = random_asked(&mut random, 7);
+        let asked = Asked::random(&mut random, 7);
         let room = random.one_of(&[1, 2, 5, 30, 400]);
         let spare = random.below(10);
         let _ = asked.portion(0, &[], 10 * room + spare);
@@ -433,17 +339,8 @@ fn two_way_families() {
     let mut random = Random::of_test("two_way_families");
     for _ in 0..8_000 {
         let persons = random.between(5, 11);
-        let mut pairs = vec![];
-        for _ in 0..random.between(persons, 2 * persons) {
-            let (one, other) = (random.below(persons) as u32, random.below(persons) as u32);
-            if one != other {
-                pairs.extend([(one, other), (other, one)]);
-            }
-        }
-        pairs.sort();
-        pairs.dedup();
+        let file = files::two_way_family(&mut random, persons).bytes();
         let hops = random.between(3, 8) as u32;
-        let file = files::undated(persons, &pairs).bytes();
         let asked = Asked::new(file, first_to_last(persons, hops));
         let cells = 10 * (asked.chains().len() + 1);
         let _ = asked.portion(0, &[], cells);
@@ -493,23 +390,11 @@ fn follow(file: &[u8], question: &Question, start: &[u32], room: usize, portions
     }
 }
 
-/// All links between 64 persons: 2.5 * 10^12 chains of at most 8 hops.
-fn everybody_linked() -> Vec<u8> {
-    let mut pairs = vec![];
-    for owner in 0..64 {
-        pairs.extend(
-            (0..64)
-                .filter(|&target| target != owner)
-                .map(|target| (owner, target)),
-        );
-    }
-    files::undated(64, &pairs).bytes()
-}
-
 #[test]
 fn a_listing_too_long_to_write_down() {
     let mut random = Random::of_test("a_listing_too_long_to_write_down");
-    let file = everybody_linked();
+    // 2.5 * 10^12 chains.
+    let file = files::everybody_linked(64).bytes();
     let question = first_to_last(64, 8);
     let mut out = untouched(10);
     let first = [0, 1, 2, 3, 4, 5, 6, 7, 63];
@@ -618,7 +503,7 @@ fn bookmarks_of_the_wrong_length() {
 fn every_cell_of_a_bookmark_changed() {
     let mut random = Random::of_test("every_cell_of_a_bookmark_changed");
     let mut all = vec![Asked::six_persons(Q)];
-    all.extend((0..150).map(|_| random_asked(&mut random, 6)));
+    all.extend((0..150).map(|_| Asked::random(&mut random, 6)));
     for asked in all {
         for chain in asked.chains().iter().take(20) {
             for cell in 0..10 {
@@ -639,7 +524,7 @@ fn two_cells_of_a_bookmark_changed() {
     let mut random = Random::of_test("two_cells_of_a_bookmark_changed");
     let mut still_chains = 0;
     for _ in 0..6_000 {
-        let asked = random_asked(&mut random, 6);
+        let asked = Asked::random(&mut random, 6);
         for chain in asked.chains().iter().take(5) {
             for _ in 0..20 {
                 let mut bookmark = record(chain);
@@ -710,7 +595,7 @@ fn bookmarks_of_another_question() {
     let mut random = Random::of_test("bookmarks_of_another_question");
     let (mut kept, mut bad) = (0, 0);
     for _ in 0..3_000 {
-        let asked = random_asked(&mut random, 6);
+        let asked = Asked::random(&mut random, 6);
         let n = u32::from_le_bytes(asked.file[4..8].try_into().expect("four bytes"));
         let mut question = random_question(&mut random, n as usize);
         if random.chance(2, 3) {
