@@ -255,9 +255,14 @@ impl Asked {
         assert_eq!(handed_over, records(self.chains()), "{:?}", self.question);
     }
 
-    /// Moves through the whole listing with these rooms, then with room 1 again and again, each call from a copy of
-    /// what the call before it left; then goes on past the end.
+    /// Moves through the whole listing with these rooms, then goes on past the end.
     pub fn moved_through(&self, held: Held, rooms: &[usize]) {
+        self.stays_at_its_end(self.moved_to_the_end(held, rooms));
+    }
+
+    /// Moves through the whole listing with these rooms, then with room 1 again and again, each call from a copy of
+    /// what the call before it left; gives the held listing at its end.
+    pub fn moved_to_the_end(&self, held: Held, rooms: &[usize]) -> Held {
         let mut held = held;
         let mut rooms = rooms.iter().copied().chain(std::iter::repeat(1));
         let mut handed_over = vec![];
@@ -273,7 +278,7 @@ impl Asked {
             }
         }
         assert_eq!(handed_over, records(self.chains()), "{:?}", self.question);
-        self.stays_at_its_end(held);
+        held
     }
 
     /// A held listing at its end answers 0 chains, ended, and does not change, however often it is asked.

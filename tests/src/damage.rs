@@ -1,8 +1,26 @@
 //! Random damage of a file's bytes: cut, grown, single bytes and bits, header numbers, tables, links exchanged. Some of
 //! it leaves a file that still passes, and says other things than before.
 
+use crate::checker::Verdict;
 use crate::files::LinkFile;
 use crate::random::Random;
+
+/// How often each verdict was met: passed at 0, the refusals at their numbers.
+#[derive(Default, Debug)]
+pub struct Tally(pub [usize; 10]);
+
+impl Tally {
+    pub fn note(&mut self, verdict: Verdict) {
+        match verdict {
+            Ok(_) => self.0[0] += 1,
+            Err(refusal) => self.0[refusal.number as usize] += 1,
+        }
+    }
+
+    pub fn assert_each_at_least(&self, least: usize) {
+        assert!(self.0.iter().all(|&met| met >= least), "{self:?}");
+    }
+}
 
 /// Damages a file in several places at once, now and then in many.
 pub fn damaged(random: &mut Random, shape: &LinkFile) -> Vec<u8> {

@@ -8,9 +8,7 @@ impl Asked {
     pub fn everything(&self, n: u32) {
         self.fresh_with_every_room();
         self.resumed_at_every_chain();
-        for room in 1..=self.chains().len() + 1 {
-            self.moved_through(self.fresh(), &vec![room; self.chains().len()]);
-        }
+        self.held_to_the_end_with_every_room();
         self.joined_with_just_enough();
         self.fewest_of_everybody(n);
     }
@@ -41,6 +39,17 @@ impl Asked {
         }
     }
 
+    /// At its end it stays, whichever way it came there.
+    pub fn held_to_the_end_with_every_room(&self) {
+        let count = self.chains().len();
+        for room in 1..=count + 1 {
+            let end = self.moved_to_the_end(self.fresh(), &vec![room; count]);
+            let mut again = end;
+            assert_eq!(self.moved(&mut again, 10).0, listed(0, true));
+            assert_eq!(again, end);
+        }
+    }
+
     /// Working cells around what is enough, and rooms around the count of chains.
     pub fn joined_around_the_bounds(&self) {
         let (enough, all) = (self.enough(), 10 * self.chains().len());
@@ -56,17 +65,15 @@ impl Asked {
         }
     }
 
-    /// Working cells exactly enough and one record fewer, room for one chain, for all, for more.
+    /// Working cells exactly enough for the half chains, and one cell fewer; room for one chain and for more than all.
     pub fn joined_with_just_enough(&self) {
-        let (enough, all) = (self.enough(), 10 * self.chains().len());
-        for cells in [10, all + 10, all + 25] {
-            let room = cells as u64 / 10;
-            let count = room.min(self.chains().len() as u64);
-            let (answer, _, _) = self.join(enough, cells);
-            assert_eq!(answer, listed(count, 10 * count as usize == all));
-            self.refuses_to_join(enough - 1, cells, 18, 0);
-            self.refuses_to_join(enough - 10, cells, 18, 0);
+        let (enough, count) = (self.enough(), self.chains().len());
+        let (answer, _, _) = self.join(enough, 10 * count + 10);
+        assert_eq!(answer, listed(count as u64, true));
+        if count > 1 {
+            assert_eq!(self.join(enough, 10).0, listed(1, false));
         }
+        self.refuses_to_join(enough - 1, 10 * count + 10, 18, 0);
     }
 
     pub fn fewest_of_everybody(&self, n: u32) {

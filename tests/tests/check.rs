@@ -7,7 +7,7 @@
 //! and files before or behind which nothing may be read. That the file stays as it came is asked in every call.
 
 use independent::checker::{self, Counts, Refusal, Verdict, LAST_DAY};
-use independent::damage::{damage, damaged, random_byte};
+use independent::damage::{damage, damaged, random_byte, Tally};
 use independent::faults::{catalogue, shown_behind, with_faults, Fault};
 use independent::files::{self, feed, link, LinkFile};
 use independent::lent::VastTail;
@@ -641,23 +641,6 @@ fn changes_of_two_bytes_of_the_six_person_file() {
             file[other] = right[other];
         }
         file[one] = right[one];
-    }
-}
-
-/// How often each verdict was met: passed at 0, the refusals at their numbers.
-#[derive(Default, Debug)]
-struct Tally([usize; 10]);
-
-impl Tally {
-    fn note(&mut self, verdict: Verdict) {
-        match verdict {
-            Ok(_) => self.0[0] += 1,
-            Err(refusal) => self.0[refusal.number as usize] += 1,
-        }
-    }
-
-    fn assert_each_at_least(&self, least: usize) {
-        assert!(self.0.iter().all(|&count| count >= least), "{self:?}");
     }
 }
 
