@@ -4,6 +4,7 @@
 
 pub mod asked;
 pub mod calls;
+pub mod case;
 pub mod checker;
 pub mod damage;
 pub mod faults;
