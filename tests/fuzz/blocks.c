@@ -1,6 +1,7 @@
 // Coverage of the library's machine code as it ships. It comes without counters, so each of its basic blocks gets a
 // breakpoint; the first time one is met, it is taken away and noted in a counter that the fuzzer looks at. After that the
-// code runs at its own speed. KIN_BLOCKS names a file with the blocks, each a number to add to the address of kin_check.
+// code runs at its own speed. KIN_BLOCKS names a file with the blocks, one a line and in
+// order: the number to add to the address of kin_check, and a name.
 #define _GNU_SOURCE
 #include <signal.h>
 #include <stdint.h>
@@ -18,7 +19,7 @@ extern uint64_t kin_check(const uint8_t *file, size_t length);
 // The fuzzer takes every byte of this section for a counter, and clears it before each input.
 static uint8_t counters[MOST] __attribute__((section("__libfuzzer_extra_counters")));
 
-static struct { uint8_t *at; uint8_t byte; int met; } blocks[MOST];
+static struct { uint8_t *at; uint8_t byte; int met; char name[80]; } blocks[MOST];
 static int count;
 
 static int block_at(uint8_t *at) {
@@ -47,14 +48,15 @@ static void report(void) {
     for (int block = 0; block < count; block++) sum += blocks[block].met;
     fprintf(stderr, "blocks of the library's machine code met: %d of %d\n", sum, count);
     for (int block = 0; block < count; block++)
-        if (!blocks[block].met) fprintf(stderr, "not met: kin_check%+ld\n", (long)(blocks[block].at - (uint8_t *)kin_check));
+        if (!blocks[block].met) fprintf(stderr, "not met: %s\n", blocks[block].name);
 }
 
 static void read_blocks(const char *name) {
     FILE *file = fopen(name, "r");
     long offset;
     if (!file) { perror(name); exit(2); }
-    while (count < MOST && fscanf(file, "%ld", &offset) == 1) blocks[count++].at = (uint8_t *)kin_check + offset;
+    while (count < MOST && fscanf(file, "%ld %79s", &offset, blocks[count].name) == 2)
+        blocks[count++].at = (uint8_t *)kin_check + offset;
     fclose(file);
 }
 

@@ -132,7 +132,7 @@ fn the_numbers_of_graphs_name_each_graph_once() {
 #[test]
 fn a_sample_of_the_graphs_of_five_persons() {
     let mut random = Random::of_test("a_sample_of_the_graphs_of_five_persons");
-    for _ in 0..rounds(150, 10_000) {
+    for _ in 0..rounds(150, 4_000) {
         every_question_about(5, random.below(1 << 20) as u32);
     }
 }
@@ -150,7 +150,7 @@ fn five_persons_with_all_links_but_at_most_one() {
 #[test]
 fn five_persons_with_few_links() {
     let mut random = Random::of_test("five_persons_with_few_links");
-    for _ in 0..rounds(150, 10_000) {
+    for _ in 0..rounds(150, 4_000) {
         let links = random.between(4, 8);
         let graph = (0..links).fold(0, |graph, _| graph | 1 << random.below(20));
         every_question_about(5, graph);
@@ -161,7 +161,7 @@ fn five_persons_with_few_links() {
 fn four_and_five_persons_with_classes_meanings_and_windows() {
     let mut random = Random::of_test("four_and_five_persons_with_classes_meanings_and_windows");
     let mut longest = 0;
-    for _ in 0..rounds(6_000, 400_000) {
+    for _ in 0..rounds(6_000, 200_000) {
         let shape = files::random_file(&mut random, 5);
         let n = shape.persons() as u32;
         if n >= 4 {
