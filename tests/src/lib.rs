@@ -16,3 +16,4 @@ pub mod pages;
 pub mod programme;
 pub mod questions;
 pub mod random;
+pub mod verdicts;
