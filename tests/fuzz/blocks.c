@@ -1,7 +1,7 @@
 // Coverage of the library's machine code as it ships. It comes without counters, so each of its basic blocks gets a
 // breakpoint; the first time one is met, it is taken away and noted in a counter that the fuzzer looks at. After that the
-// code runs at its own speed. KIN_BLOCKS names a file with the blocks, one a line and in
-// order: the number to add to the address of kin_check, and a name.
+// code runs at its own speed. KIN_BLOCKS names a file with the blocks, one a line and in order: the number to add to the
+// address of kin_check, and a name.
 #define _GNU_SOURCE
 #include <signal.h>
 #include <stdint.h>

@@ -116,11 +116,20 @@ pub fn random_case(random: &mut Random) -> Vec<u8> {
 
 /// The bytes of a random case over about as many persons as there can be, with few links.
 pub fn random_wide_case(random: &mut Random) -> Vec<u8> {
-    let persons = files::MOST_PERSONS - random.below(8);
+    let persons = files::MOST_PERSONS - random.below(4);
     let last = persons as u32 - 1;
-    let pairs = [(0, last - 1), (0, last), (last - 1, last), (last, 0)];
+    let pairs = [
+        (0, last - 1),
+        (0, last),
+        (last - 1, 0),
+        (last - 1, last),
+        (last, 0),
+    ];
     let shape = files::undated(persons, &pairs);
-    let question = first_to_last(persons, random.between(1, 8) as u32);
+    let mut question = first_to_last(persons, random.between(1, 8) as u32);
+    if random.chance(1, 2) {
+        (question.from, question.to) = (question.to, question.from);
+    }
     case_over(random, &shape, &question)
 }
 

@@ -2,8 +2,8 @@
 //!
 //! Covers: every person of the six-person file, of random files and of largest ones; persons out of range, also such
 //! as would be in range with high bits cut off; files with each fault of the catalogue, where every view is empty;
-//! damaged files; the empty slice; files before or behind which nothing may be read. That the file stays as it came is asked in
-//! every call.
+//! damaged files; the empty slice; files before or behind which nothing may be read. That the file stays as it came is
+//! asked in every call.
 
 use independent::checker;
 use independent::faults::{catalogue, with_faults};
