@@ -1,9 +1,9 @@
 //! Every graph of four persons and every question about it, and as much of five persons as there is time for: fresh with
 //! every room, resumed at every chain, held to the end, joined, and everybody's fewest hops, against brute force.
 //!
-//! Covers: all 2^12 graphs of four persons, all ordered pairs of From and To, all hops 1 to 8; graphs of five persons by a
-//! seeded sample, and all of them with few or with nearly all of the links; files of four and five persons with classes,
-//! meanings and windows by a seeded sample.
+//! Covers: all 2^12 graphs of four persons, all ordered pairs of From and To, all hops 1 to 8; all graphs of two and three
+//! persons; graphs of five persons by seeded samples, of any density and sparse, and with all links or all but one; files
+//! of four and five persons with classes, meanings and windows by a seeded sample.
 
 use independent::asked::Asked;
 use independent::checker;
@@ -108,7 +108,7 @@ fn every_graph_of_three_persons() {
 }
 
 #[test]
-fn both_graphs_and_both_questions_of_two_persons() {
+fn every_graph_of_two_persons() {
     for graph in 0..1 << 2 {
         every_question_about(2, graph);
     }
@@ -146,9 +146,9 @@ fn five_persons_with_all_links_but_at_most_one() {
     }
 }
 
-/// Sparse graphs: most numbers have about ten of the twenty links, and those say little of dead ends.
 #[test]
 fn five_persons_with_few_links() {
+    // Most numbers have about ten of the twenty links, and such graphs have few dead ends.
     let mut random = Random::of_test("five_persons_with_few_links");
     for _ in 0..rounds(150, 4_000) {
         let links = random.between(4, 8);
