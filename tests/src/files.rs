@@ -181,6 +181,46 @@ pub fn random_graph(random: &mut Random, persons: usize, parts: usize) -> LinkFi
     undated(persons, &pairs)
 }
 
+/// Every person linked with every other.
+pub fn everybody_linked(persons: usize) -> LinkFile {
+    undated(persons, &everybody(persons as u32))
+}
+
+/// How many links a graph of so many persons can have.
+pub fn links_of_graph(persons: u32) -> u32 {
+    persons * (persons - 1)
+}
+
+/// The undated graph of a number: each of its bits is one link, owner by owner, target by target.
+pub fn graph_of_number(persons: u32, number: u32) -> LinkFile {
+    let mut pairs = everybody(persons);
+    let mut bits = (0..).map(|bit| number >> bit & 1 == 1);
+    pairs.retain(|_| bits.next().expect("bits never end"));
+    undated(persons as usize, &pairs)
+}
+
+/// All pairs of different persons, in order.
+fn everybody(persons: u32) -> Vec<(u32, u32)> {
+    (0..persons)
+        .flat_map(|owner| (0..persons).map(move |target| (owner, target)))
+        .filter(|(owner, target)| owner != target)
+        .collect()
+}
+
+/// Links both ways, as between relatives: ways close and reopen more often than in other graphs.
+pub fn two_way_family(random: &mut Random, persons: usize) -> LinkFile {
+    let mut pairs = vec![];
+    for _ in 0..random.between(persons, 2 * persons) {
+        let (one, other) = (random.below(persons) as u32, random.below(persons) as u32);
+        if one != other {
+            pairs.extend([(one, other), (other, one)]);
+        }
+    }
+    pairs.sort();
+    pairs.dedup();
+    undated(persons, &pairs)
+}
+
 /// A file with all counts at their limits and four links a person.
 pub fn largest() -> LinkFile {
     let rows = (0..MOST_PERSONS)

@@ -1,9 +1,11 @@
-//! Memory lent to the library. Around the lent part lie zones that belong to the lender, so that a write outside
-//! the part is seen; a guarded file ends where the process may read no further, so that a read outside is seen too.
+//! Memory lent to the library. Around the lent part lie zones that belong to the lender, so that a write outside the
+//! part is seen; at the edge of a page a read outside is seen too, since it ends the run.
 
+use crate::calls::Slice;
+use crate::pages::Pages;
 use std::fmt::Debug;
 
-/// Elements before and behind the lent part.
+/// Elements before and behind a part that lies between zones.
 const ZONE: usize = 64;
 
 /// Cells as they are lent where nothing is said in them: each with a value of its own, so that moved cells are seen too.
@@ -11,149 +13,175 @@ pub fn untouched(cells: usize) -> Vec<u32> {
     (0..cells as u32).map(|cell| 0xC000_0000 + cell).collect()
 }
 
-/// A lent part between two zones.
+/// What a lent slice is made of.
+pub trait Element: Copy + PartialEq + Debug {
+    /// What stands around a lent part. Not zero, so that a number read beyond the end is seen as wrong.
+    const AROUND: Self;
+}
+
+impl Element for u8 {
+    const AROUND: u8 = 0xA5;
+}
+
+impl Element for u32 {
+    const AROUND: u32 = 0xA5A5_A5A5;
+}
+
+/// Where a lent part lies.
+#[derive(Clone, Copy, Debug, PartialEq, Eq)]
+pub enum Memory {
+    /// On the heap, between zones.
+    Zones,
+    /// Before its first byte nothing may be read or written.
+    PageStart,
+    /// Behind its last byte nothing may be read or written.
+    PageEnd,
+    /// On the heap by itself, for a run under a memory checker, which would take zones for memory lent.
+    Alone,
+}
+
+/// What the library may do with a lent part.
+#[derive(Clone, Copy, Debug, PartialEq, Eq)]
+pub enum Lease {
+    ToRead,
+    ToWrite,
+}
+
+enum Block<T> {
+    Heap(Vec<T>),
+    Paged(Pages),
+}
+
+impl<T: Element> Block<T> {
+    fn all(&self) -> &[T] {
+        match self {
+            Block::Heap(all) => all,
+            Block::Paged(pages) => {
+                let length = pages.length() / size_of::<T>();
+                unsafe { std::slice::from_raw_parts(pages.pointer() as *const T, length) }
+            }
+        }
+    }
+
+    fn pointer(&mut self) -> *mut T {
+        match self {
+            Block::Heap(all) => all.as_mut_ptr(),
+            Block::Paged(pages) => pages.pointer() as *mut T,
+        }
+    }
+}
+
+/// A lent part and what lies around it.
 pub struct Lent<T> {
-    all: Vec<T>,
+    block: Block<T>,
     before_call: Vec<T>,
     start: usize,
     length: usize,
 }
 
-impl<T: Copy + PartialEq + Debug> Lent<T> {
-    /// Lends a copy of `contents`, `shift` elements further than the zone asks: so files come at odd addresses too.
-    pub fn shifted(contents: &[T], zone: T, shift: usize) -> Lent<T> {
+impl<T: Element> Lent<T> {
+    /// Lends a copy of `contents` between zones.
+    pub fn new(contents: &[T]) -> Lent<T> {
+        Lent::shifted(contents, 0)
+    }
+
+    /// The same, `shift` elements further: so files come at odd addresses too.
+    pub fn shifted(contents: &[T], shift: usize) -> Lent<T> {
         let start = ZONE + shift;
-        let mut all = vec![zone; start + contents.len() + ZONE];
+        let mut all = vec![T::AROUND; start + contents.len() + ZONE];
         all[start..start + contents.len()].copy_from_slice(contents);
         Lent {
             before_call: all.clone(),
-            all,
+            block: Block::Heap(all),
             start,
             length: contents.len(),
         }
     }
 
-    pub fn new(contents: &[T], zone: T) -> Lent<T> {
-        Lent::shifted(contents, zone, 0)
+    pub fn in_memory(memory: Memory, contents: &[T], lease: Lease) -> Lent<T> {
+        match memory {
+            Memory::Zones => Lent::new(contents),
+            Memory::PageStart => Lent::in_pages(contents, lease, |_| 0),
+            Memory::PageEnd => Lent::in_pages(contents, lease, |all| all - contents.len()),
+            Memory::Alone => Lent {
+                block: Block::Heap(contents.to_vec()),
+                before_call: contents.to_vec(),
+                start: 0,
+                length: contents.len(),
+            },
+        }
     }
 
-    pub fn pointer(&mut self) -> *mut T {
-        self.all[self.start..].as_mut_ptr()
+    /// In pages of its own; `start` says from their number of elements where the part starts.
+    fn in_pages(contents: &[T], lease: Lease, start: impl Fn(usize) -> usize) -> Lent<T> {
+        let pages = Pages::new(size_of_val(contents));
+        let all = pages.length() / size_of::<T>();
+        let start = start(all);
+        let mut before_call = vec![T::AROUND; all];
+        before_call[start..start + contents.len()].copy_from_slice(contents);
+        pages.open(pages.length());
+        let first = pages.pointer() as *mut T;
+        unsafe { std::ptr::copy_nonoverlapping(before_call.as_ptr(), first, all) };
+        if lease == Lease::ToRead {
+            pages.close();
+        }
+        Lent {
+            block: Block::Paged(pages),
+            before_call,
+            start,
+            length: contents.len(),
+        }
     }
 
-    pub fn length(&self) -> usize {
-        self.length
+    /// The part as the library takes it.
+    pub fn slice(&mut self) -> Slice<T> {
+        // No elements may lie at the very end of what there is.
+        (self.block.pointer().wrapping_add(self.start), self.length)
     }
 
     /// The lent part as it is now.
     pub fn contents(&self) -> &[T] {
-        &self.all[self.start..self.start + self.length]
+        &self.block.all()[self.start..self.start + self.length]
     }
 
     /// Fails if anything changed, in the part or around it.
     pub fn assert_as_it_came(&self) {
-        assert!(self.all == self.before_call, "lent memory was changed");
+        assert!(
+            self.block.all() == self.before_call,
+            "lent memory was changed"
+        );
     }
 
     /// Fails if anything changed around the part.
     pub fn assert_zones_as_they_came(&self) {
         let end = self.start + self.length;
-        let before = self.all[..self.start] == self.before_call[..self.start];
-        let behind = self.all[end..] == self.before_call[end..];
+        let all = self.block.all();
+        let before = all[..self.start] == self.before_call[..self.start];
+        let behind = all[end..] == self.before_call[end..];
         assert!(before && behind, "memory beside the lent part was changed");
     }
 }
 
-const PAGE: usize = 4096;
-const READ_WRITE: i32 = 1 | 2;
-const READ: i32 = 1;
-const NOTHING: i32 = 0;
-const PRIVATE_ANONYMOUS: i32 = 0x02 | 0x20;
-
-extern "C" {
-    fn mmap(at: *mut u8, length: usize, rights: i32, flags: i32, file: i32, offset: i64)
-        -> *mut u8;
-    fn mprotect(at: *mut u8, length: usize, rights: i32) -> i32;
-    fn munmap(at: *mut u8, length: usize) -> i32;
-}
-
-/// Pages that may only be read and hold a file at `start`; behind them one that may not even be read.
-struct Pages {
-    first: *mut u8,
-    mapped: usize,
-}
-
-impl Pages {
-    fn holding(file: &[u8], start: usize, readable: usize) -> Pages {
-        let mapped = readable + PAGE;
-        let written = (start + file.len()).div_ceil(PAGE) * PAGE;
-        unsafe {
-            let nowhere = std::ptr::null_mut();
-            let first = mmap(nowhere, mapped, READ, PRIVATE_ANONYMOUS, -1, 0);
-            assert!(first as isize != -1, "no pages to lend");
-            if written > 0 {
-                rights(first, written, READ_WRITE);
-                std::ptr::copy_nonoverlapping(file.as_ptr(), first.add(start), file.len());
-                rights(first, written, READ);
-            }
-            rights(first.add(readable), PAGE, NOTHING);
-            Pages { first, mapped }
-        }
-    }
-}
-
-impl Drop for Pages {
-    fn drop(&mut self) {
-        unsafe {
-            munmap(self.first, self.mapped);
-        }
-    }
-}
-
-unsafe fn rights(at: *mut u8, length: usize, rights: i32) {
-    assert_eq!(mprotect(at, length, rights), 0, "no rights to change");
-}
-
-/// A file that may only be read, and whose end is the end of what may be read at all: a step beyond it ends the
-/// test run at once.
-pub struct Guarded {
+/// Bytes with very many zeros behind them, in pages that may only be read: a length cut to 32 bits would be that of the
+/// bytes alone.
+pub struct VastTail {
     pages: Pages,
-    start: usize,
     length: usize,
 }
 
-impl Guarded {
-    pub fn new(file: &[u8]) -> Guarded {
-        let readable = file.len().div_ceil(PAGE) * PAGE;
-        let start = readable - file.len();
-        Guarded {
-            pages: Pages::holding(file, start, readable),
-            start,
-            length: file.len(),
-        }
+impl VastTail {
+    pub fn new(bytes: &[u8], zeros: usize) -> VastTail {
+        let length = bytes.len() + zeros;
+        let pages = Pages::new(length);
+        pages.open(bytes.len());
+        unsafe { std::ptr::copy_nonoverlapping(bytes.as_ptr(), pages.pointer(), bytes.len()) };
+        pages.close();
+        VastTail { pages, length }
     }
 
-    /// The file with zeros behind it, 2^32 bytes of them: a length cut to 32 bits would be the file's own.
-    pub fn with_vast_tail(file: &[u8]) -> Guarded {
-        Guarded::with_tail(file, 1 << 32)
-    }
-
-    /// The bytes, at an address that suits cells too, with so many zeros behind them.
-    pub fn with_tail(file: &[u8], zeros: usize) -> Guarded {
-        let length = file.len() + zeros;
-        let readable = length.div_ceil(PAGE) * PAGE;
-        Guarded {
-            pages: Pages::holding(file, 0, readable),
-            start: 0,
-            length,
-        }
-    }
-
-    pub fn pointer(&self) -> *const u8 {
-        unsafe { self.pages.first.add(self.start) }
-    }
-
-    pub fn length(&self) -> usize {
-        self.length
+    /// The bytes and the zeros, as elements of any size: pages suit cells too.
+    pub fn slice<T>(&self) -> Slice<T> {
+        let length = self.length / size_of::<T>();
+        (self.pages.pointer() as *mut T, length)
     }
 }

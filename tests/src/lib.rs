@@ -2,11 +2,18 @@
 //! written from the customer's document and the readings in docs/DECISIONS.md, plainly and without any pruning, so
 //! that an answer they share with the static library is no shared mistake.
 
+pub mod asked;
+pub mod calls;
+pub mod case;
 pub mod checker;
+pub mod damage;
 pub mod faults;
 pub mod files;
 pub mod lent;
 pub mod lister;
 pub mod outside;
+pub mod pages;
+pub mod programme;
 pub mod questions;
 pub mod random;
+pub mod verdicts;

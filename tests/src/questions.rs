@@ -3,7 +3,7 @@
 
 use crate::checker::{Refusal, LAST_DAY};
 use crate::files::random_day;
-use crate::lister::Question;
+use crate::lister::{record, Held, Question};
 use crate::random::Random;
 
 /// Q of the six-person file.
@@ -16,6 +16,24 @@ pub const Q: Question = Question {
     first_day: 1,
     last_day: LAST_DAY,
 };
+
+/// The chains of Q, in dictionary order.
+pub const A: &[u32] = &[0, 1, 3, 5];
+pub const B: &[u32] = &[0, 2, 1, 3, 5];
+pub const C: &[u32] = &[0, 2, 3, 5];
+
+/// Q as it is held, written out cell by cell.
+pub const Q_HELD: Held = [
+    0, 5, 4, 15, 1, 1, 3_652_059, 0, 7, 7, 7, 7, 7, 7, 7, 7, 7, 7,
+];
+
+/// Q held after one of its chains.
+pub fn q_after(chain: &[u32]) -> Held {
+    let mut held = Q_HELD;
+    held[7] = 1;
+    held[8..].copy_from_slice(&record(chain));
+    held
+}
 
 /// From the first person to the last one, all links admitted that are undated.
 pub fn first_to_last(persons: usize, hops: u32) -> Question {

@@ -8,6 +8,18 @@ const USUAL_SEED: u64 = 20_011;
 /// Set this to a number to run the random tests with that seed.
 const SEED_VARIABLE: &str = "KIN_SEED";
 
+/// Set this to anything for the longer run.
+const LONG_VARIABLE: &str = "KIN_LONG";
+
+/// How many rounds a test goes: as many as the gate has time for, or as many as the longer run has.
+pub fn rounds(gate: usize, long: usize) -> usize {
+    if env::var_os(LONG_VARIABLE).is_some() {
+        long
+    } else {
+        gate
+    }
+}
+
 pub struct Random {
     state: u64,
 }

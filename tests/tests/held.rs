@@ -3,173 +3,25 @@
 //!
 //! Covers: the six-person file moved through; whole listings at rooms 1, 2, 3, 40 and random, in one place and from
 //! whichever desk; past the end, again and again; no chain at all; garbage in the record of one not yet started; bad
-//! records in a started one; every number in the started cell; the file and the question changed between calls; outputs
-//! of every length; other than 18 cells, also none at the null pointer; every refusal and their order. The file has to
-//! stay as it came in every call, and so has the memory beside what is lent.
+//! records in a started one; every number in the started cell; the file and the question changed between calls. Sizes
+//! and refusals are in `held_refusals.rs`. The file has to stay as it came in every call, and so has the memory beside
+//! what is lent.
 
-use independent::checker::{refused, Refusal};
-use independent::faults::{catalogue, with_faults};
+use independent::asked::{records, Asked};
 use independent::files::{self, random_graph};
-use independent::lent::{untouched, Guarded, Lent};
-use independent::lister::{
-    held_of, listed, listing, moved_on, record, Chain, Held, Listed, Question,
-};
-use independent::outside;
-use independent::questions::{
-    first_to_last, numbers_of, question_faults, question_of, random_question, Q,
-};
+use independent::lent::{untouched, Lent};
+use independent::lister::{listed, record, Held, Question};
+use independent::questions::{first_to_last, q_after, random_question, A, B, C, Q, Q_HELD};
 use independent::random::Random;
-
-type Answer = Result<Listed, Refusal>;
 
 /// Numbers that are started.
 const STARTED: [u32; 8] = [1, 2, 3, 255, 256, 65_536, 1 << 31, u32::MAX];
 
-/// A file, and a question's listing by brute force.
-struct Desk {
-    file: Vec<u8>,
-    question: Question,
-    listing: Result<Vec<Chain>, Refusal>,
-}
-
-impl Desk {
-    fn new(file: Vec<u8>, question: Question) -> Desk {
-        let listing = listing(&file, &question);
-        Desk {
-            file,
-            question,
-            listing,
-        }
-    }
-
-    fn six_persons(question: Question) -> Desk {
-        Desk::new(files::six_persons().bytes(), question)
-    }
-
-    fn random(random: &mut Random, most_persons: usize) -> Desk {
-        loop {
-            let file = files::random_file(random, most_persons);
-            if file.persons() > 1 {
-                let question = random_question(random, file.persons());
-                return Desk::new(file.bytes(), question);
-            }
-        }
-    }
-
-    fn chains(&self) -> &[Chain] {
-        self.listing.as_ref().expect("the question passes")
-    }
-
-    /// The desk's question, held.
-    fn held(&self, started: u32, record: &[u32; 10]) -> Held {
-        held_of(&self.question, started, record)
-    }
-
-    /// A held listing of the desk's question, not yet started, with garbage in its record.
-    fn fresh(&self) -> Held {
-        let garbage = untouched(10).try_into().expect("ten cells");
-        self.held(0, &garbage)
-    }
-
-    /// Moves a held listing on and holds answer, output and held cells against the lister's; gives answer and output.
-    fn moved(&self, held: &mut Held, cells: usize) -> (Answer, Vec<u32>) {
-        let came = *held;
-        let mut out = untouched(cells);
-        let told = outside::held(held, &self.file, &mut out);
-        self.as_it_has_to_be(&came, held, told, &out);
-        (told, out)
-    }
-
-    /// The same, in the memory where the held listing lies.
-    fn moved_in_place(&self, lent: &mut Lent<u32>, cells: usize) -> (Answer, Vec<u32>) {
-        let came = held_cells(lent.contents());
-        let mut out = untouched(cells);
-        let told = outside::held_in_place(lent, &self.file, &mut out);
-        self.as_it_has_to_be(&came, &held_cells(lent.contents()), told, &out);
-        (told, out)
-    }
-
-    fn as_it_has_to_be(&self, came: &Held, held: &Held, told: Answer, out: &[u32]) {
-        let mut right_held = *came;
-        let mut right_out = untouched(out.len());
-        let right = moved_on(&self.listing, &mut right_held, &mut right_out);
-        assert!(
-            told == right && *held == right_held && out == right_out,
-            "held {came:?}, {} cells, of {:?}:\ntold {told:?} {held:?} {out:?}\nright {right:?} {right_held:?} {right_out:?}",
-            out.len(),
-            self.file
-        );
-    }
-
-    /// Moves through the whole listing with these rooms, the last of them again and again, each call from a copy of
-    /// what the call before it left; then goes on past the end.
-    fn moved_through(&self, held: Held, rooms: &[usize]) {
-        let mut held = held;
-        let mut rooms = rooms.iter().copied().chain(std::iter::repeat(1));
-        let mut handed_over = vec![];
-        loop {
-            let mut copy = held;
-            let room = rooms.next().expect("rooms never end");
-            let (answer, out) = self.moved(&mut copy, 10 * room);
-            let answer = answer.expect("neither file nor question is refused");
-            handed_over.extend_from_slice(&out[..10 * answer.count as usize]);
-            held = copy;
-            if answer.ended {
-                break;
-            }
-        }
-        assert_eq!(handed_over, records(self.chains()), "{:?}", self.question);
-        self.stays_at_its_end(held);
-    }
-
-    /// A held listing at its end answers 0 chains, ended, and does not change, however often it is asked.
-    fn stays_at_its_end(&self, held: Held) {
-        let mut asked = held;
-        for cells in [10, 29, 30, 400, 10] {
-            let (answer, out) = self.moved(&mut asked, cells);
-            assert_eq!((answer, out), (listed(0, true), untouched(cells)));
-            assert_eq!(asked, held);
-        }
-    }
-
-    /// A call that is refused, and leaves all cells as they came.
-    fn refuses(&self, held: Held, cells: usize, number: u32, place: u32) {
-        let mut asked = held;
-        let (answer, out) = self.moved(&mut asked, cells);
-        assert_eq!((answer, out), (refused(number, place), untouched(cells)));
-        assert_eq!(asked, held);
-    }
-}
-
-fn held_cells(cells: &[u32]) -> Held {
-    cells.try_into().expect("18 cells")
-}
-
-fn records(chains: &[Chain]) -> Vec<u32> {
-    chains.iter().flat_map(|chain| record(chain)).collect()
-}
-
 // The six-person file.
-
-const A: &[u32] = &[0, 1, 3, 5];
-const B: &[u32] = &[0, 2, 1, 3, 5];
-const C: &[u32] = &[0, 2, 3, 5];
-
-/// Q as it is held, written out cell by cell.
-const Q_HELD: Held = [
-    0, 5, 4, 15, 1, 1, 3_652_059, 0, 7, 7, 7, 7, 7, 7, 7, 7, 7, 7,
-];
-
-fn q_after(chain: &[u32]) -> Held {
-    let mut held = Q_HELD;
-    held[7] = 1;
-    held[8..].copy_from_slice(&record(chain));
-    held
-}
 
 #[test]
 fn the_six_person_file_with_room_for_two() {
-    let desk = Desk::six_persons(Q);
+    let desk = Asked::six_persons(Q);
     let mut held = Q_HELD;
     let (answer, out) = desk.moved(&mut held, 29);
     assert_eq!((answer, held), (listed(2, false), q_after(B)));
@@ -184,7 +36,7 @@ fn the_six_person_file_with_room_for_two() {
 
 #[test]
 fn the_six_person_file_chain_by_chain() {
-    let desk = Desk::six_persons(Q);
+    let desk = Asked::six_persons(Q);
     let mut held = Q_HELD;
     for (chain, ended) in [(A, false), (B, false), (C, true)] {
         let (answer, out) = desk.moved(&mut held, 10);
@@ -196,7 +48,7 @@ fn the_six_person_file_chain_by_chain() {
 
 #[test]
 fn a_portion_that_is_all_there_is() {
-    let desk = Desk::six_persons(Q);
+    let desk = Asked::six_persons(Q);
     for cells in [30, 39, 40, 400] {
         let mut held = Q_HELD;
         let (answer, _) = desk.moved(&mut held, cells);
@@ -208,11 +60,11 @@ fn a_portion_that_is_all_there_is() {
 #[rustfmt::skip]
 fn no_chain_starts_nothing() {
     for question in [Question { hops: 2, ..Q }, Question { meaning: 2, ..Q }, Question { last_day: 700_399, ..Q }] {
-        let desk = Desk::six_persons(question);
+        let desk = Asked::six_persons(question);
         desk.stays_at_its_end(desk.fresh());
         desk.stays_at_its_end(desk.held(0, &[0; 10]));
         desk.stays_at_its_end(desk.held(0, &record(A)));
-        desk.refuses(desk.held(1, &record(A)), 30, 17, 0);
+        desk.refuses_to_move(desk.held(1, &record(A)), 30, 17, 0);
     }
 }
 
@@ -227,8 +79,8 @@ fn every_question_over_the_six_person_file() {
                     hops,
                     ..Q
                 };
-                let desk = Desk::six_persons(question);
-                if desk.listing.is_ok() {
+                let desk = Asked::six_persons(question);
+                if desk.passes() {
                     desk.moved_through(desk.fresh(), &[]);
                     desk.moved_through(desk.fresh(), &[2, 2, 2, 2]);
                 } else {
@@ -246,7 +98,7 @@ fn whole_listings_at_rooms_1_2_3_and_40() {
     let mut random = Random::of_test("whole_listings_at_rooms_1_2_3_and_40");
     let (mut with_chains, mut longest) = (0, 0);
     for _ in 0..10_000 {
-        let desk = Desk::random(&mut random, 7);
+        let desk = Asked::random(&mut random, 7);
         let count = desk.chains().len();
         with_chains += usize::from(count > 1);
         longest = longest.max(count);
@@ -265,7 +117,7 @@ fn whole_listings_at_random_rooms() {
         let persons = random.between(4, 8);
         let parts = random.between(1, 5);
         let file = random_graph(&mut random, persons, parts).bytes();
-        let desk = Desk::new(file, first_to_last(persons, random.between(2, 8) as u32));
+        let desk = Asked::new(file, first_to_last(persons, random.between(2, 8) as u32));
         longest = longest.max(desk.chains().len());
         let most = random.one_of(&[2, 5, 20, 60]);
         let rooms: Vec<usize> = (0..300).map(|_| random.between(1, most)).collect();
@@ -278,8 +130,8 @@ fn whole_listings_at_random_rooms() {
 fn a_held_listing_that_stays_in_its_place() {
     let mut random = Random::of_test("a_held_listing_that_stays_in_its_place");
     for _ in 0..2_000 {
-        let desk = Desk::random(&mut random, 6);
-        let mut lent = Lent::shifted(&desk.fresh(), 0xA5A5_A5A5, random.below(4));
+        let desk = Asked::random(&mut random, 6);
+        let mut lent = Lent::shifted(&desk.fresh(), random.below(4));
         let mut handed_over = vec![];
         // Two calls more than it takes at the smallest room.
         for _ in 0..desk.chains().len() + 2 {
@@ -297,7 +149,7 @@ fn held_listings_of_several_desks_at_once() {
     // Several questions over several files, held side by side and moved in any order: none knows of another.
     let mut random = Random::of_test("held_listings_of_several_desks_at_once");
     for _ in 0..300 {
-        let desks: Vec<Desk> = (0..4).map(|_| Desk::random(&mut random, 6)).collect();
+        let desks: Vec<Asked> = (0..4).map(|_| Asked::random(&mut random, 6)).collect();
         let mut listings: Vec<(usize, Held, Vec<u32>)> = (0..8)
             .map(|i| (i % 4, desks[i % 4].fresh(), vec![]))
             .collect();
@@ -318,7 +170,7 @@ fn held_listings_of_several_desks_at_once() {
 fn a_copy_goes_on_from_where_it_was_made() {
     let mut random = Random::of_test("a_copy_goes_on_from_where_it_was_made");
     for _ in 0..300 {
-        let desk = Desk::random(&mut random, 6);
+        let desk = Asked::random(&mut random, 6);
         let mut held = desk.fresh();
         let mut copies = vec![held];
         for _ in 0..desk.chains().len().min(12) {
@@ -337,7 +189,7 @@ fn a_copy_goes_on_from_where_it_was_made() {
 
 #[test]
 fn one_not_yet_started_ignores_its_record() {
-    let desk = Desk::six_persons(Q);
+    let desk = Asked::six_persons(Q);
     let mut beyond = record(C);
     beyond[9] = 1;
     for garbage in [
@@ -352,7 +204,7 @@ fn one_not_yet_started_ignores_its_record() {
     ] {
         desk.moved_through(desk.held(0, &garbage), &[]);
         desk.moved_through(desk.held(0, &garbage), &[2, 2]);
-        desk.refuses(desk.held(0, &garbage), 9, 16, 0);
+        desk.refuses_to_move(desk.held(0, &garbage), 9, 16, 0);
     }
 }
 
@@ -360,7 +212,7 @@ fn one_not_yet_started_ignores_its_record() {
 fn garbage_in_the_records_of_random_listings() {
     let mut random = Random::of_test("garbage_in_the_records_of_random_listings");
     for _ in 0..3_000 {
-        let desk = Desk::random(&mut random, 6);
+        let desk = Asked::random(&mut random, 6);
         let bound = random.one_of(&[2, 7, 1 << 16, 1 << 32]);
         let garbage: [u32; 10] = std::array::from_fn(|_| random.below(bound) as u32);
         let mut held = desk.held(0, &garbage);
@@ -375,17 +227,17 @@ fn garbage_in_the_records_of_random_listings() {
 
 #[test]
 fn any_number_but_0_is_started() {
-    let desk = Desk::six_persons(Q);
+    let desk = Asked::six_persons(Q);
     for started in STARTED {
         let mut held = desk.held(started, &record(A));
         let (answer, _) = desk.moved(&mut held, 10);
         assert_eq!((answer, held), (listed(1, false), q_after(B)), "{started}");
         // With nothing written, and where it is refused, the cell stays as it was.
         desk.stays_at_its_end(desk.held(started, &record(C)));
-        desk.refuses(desk.held(started, &record(&[0, 1, 4, 5])), 30, 17, 0);
-        desk.refuses(desk.held(started, &record(A)), 9, 16, 0);
-        let none = Desk::six_persons(Question { hops: 0, ..Q });
-        none.refuses(none.held(started, &record(A)), 30, 12, 0);
+        desk.refuses_to_move(desk.held(started, &record(&[0, 1, 4, 5])), 30, 17, 0);
+        desk.refuses_to_move(desk.held(started, &record(A)), 9, 16, 0);
+        let none = Asked::six_persons(Question { hops: 0, ..Q });
+        none.refuses_to_move(none.held(started, &record(A)), 30, 12, 0);
     }
 }
 
@@ -393,7 +245,7 @@ fn any_number_but_0_is_started() {
 fn started_over_random_listings() {
     let mut random = Random::of_test("started_over_random_listings");
     for _ in 0..4_000 {
-        let desk = Desk::random(&mut random, 6);
+        let desk = Asked::random(&mut random, 6);
         for chain in desk.chains().iter().take(6) {
             let mut held = desk.held(random.one_of(&STARTED), &record(chain));
             let _ = desk.moved(&mut held, random.between(9, 45));
@@ -403,7 +255,7 @@ fn started_over_random_listings() {
 
 #[test]
 fn bad_records_of_a_started_one() {
-    let desk = Desk::six_persons(Q);
+    let desk = Asked::six_persons(Q);
     for record in [
         [0; 10],
         [u32::MAX; 10],
@@ -422,20 +274,20 @@ fn bad_records_of_a_started_one() {
     ] {
         for started in STARTED {
             for cells in [10, 30, 45] {
-                desk.refuses(desk.held(started, &record), cells, 17, 0);
+                desk.refuses_to_move(desk.held(started, &record), cells, 17, 0);
             }
         }
     }
     // With hops 3 the chain of four hops is none of the listing.
-    let three = Desk::six_persons(Question { hops: 3, ..Q });
-    three.refuses(three.held(1, &record(B)), 30, 17, 0);
+    let three = Asked::six_persons(Question { hops: 3, ..Q });
+    three.refuses_to_move(three.held(1, &record(B)), 30, 17, 0);
 }
 
 #[test]
 fn every_cell_of_a_record_changed() {
     let mut random = Random::of_test("every_cell_of_a_record_changed");
-    let mut desks = vec![Desk::six_persons(Q)];
-    desks.extend((0..400).map(|_| Desk::random(&mut random, 6)));
+    let mut desks = vec![Asked::six_persons(Q)];
+    desks.extend((0..400).map(|_| Asked::random(&mut random, 6)));
     let (mut kept, mut bad) = (0, 0);
     for desk in desks {
         for chain in desk.chains().iter().take(10) {
@@ -467,7 +319,7 @@ fn the_file_changed_between_calls() {
             continue;
         }
         let question = random_question(&mut random, shape.persons());
-        let desk = Desk::new(shape.bytes(), question);
+        let desk = Asked::new(shape.bytes(), question);
         let mut held = desk.fresh();
         let _ = desk.moved(&mut held, 10 * random.between(1, 4));
         for _ in 0..3 {
@@ -476,7 +328,7 @@ fn the_file_changed_between_calls() {
             if !row.is_empty() {
                 row.remove(random.below(row.len()));
             }
-            let changed = Desk::new(shape.bytes(), question);
+            let changed = Asked::new(shape.bytes(), question);
             match changed.moved(&mut held, 10 * random.between(1, 2)).0 {
                 Ok(_) => kept += 1,
                 Err(_) => bad += 1,
@@ -491,164 +343,33 @@ fn the_file_changed_between_calls() {
 #[test]
 fn a_link_more_brings_chains_after_the_end() {
     let mut shape = files::six_persons();
-    let desk = Desk::new(shape.bytes(), Q);
+    let desk = Asked::new(shape.bytes(), Q);
     let mut held = desk.fresh();
     let _ = desk.moved(&mut held, 30);
     assert_eq!(held, q_after(C));
     desk.stays_at_its_end(held);
     // 2 gets a link to 5 as well: (0 2 5) follows (0 2 3 5).
     shape.rows[2].push(files::link(5, 1, 0, 0));
-    let changed = Desk::new(shape.bytes(), Q);
+    let changed = Asked::new(shape.bytes(), Q);
     let (answer, _) = changed.moved(&mut held, 30);
     assert_eq!((answer, held), (listed(1, true), q_after(&[0, 2, 5])));
     // Without that link again, its record is none of the listing.
-    desk.refuses(held, 30, 17, 0);
+    desk.refuses_to_move(held, 30, 17, 0);
 }
 
 #[test]
 fn the_question_changed_between_calls() {
     let mut random = Random::of_test("the_question_changed_between_calls");
     for _ in 0..3_000 {
-        let desk = Desk::random(&mut random, 6);
+        let desk = Asked::random(&mut random, 6);
         let mut held = desk.fresh();
         let _ = desk.moved(&mut held, 10 * random.between(1, 4));
         let n = u32::from_le_bytes(desk.file[4..8].try_into().expect("four bytes"));
         let mut other = random_question(&mut random, n as usize);
         (other.from, other.to) = (desk.question.from, desk.question.to);
-        let changed = Desk::new(desk.file.clone(), other);
+        let changed = Asked::new(desk.file.clone(), other);
         let record = held[8..].try_into().expect("ten cells");
         let mut held = changed.held(held[7], record);
         let _ = changed.moved(&mut held, 30);
     }
-}
-
-// Output.
-
-#[test]
-fn outputs_of_every_length() {
-    let desk = Desk::six_persons(Q);
-    for cells in 0..=64 {
-        for held in [desk.fresh(), q_after(A), q_after(B), q_after(C)] {
-            let (answer, _) = desk.moved(&mut held.clone(), cells);
-            assert_eq!(answer.is_err(), cells < 10);
-        }
-    }
-}
-
-#[test]
-fn no_output_cells_at_the_null_pointer() {
-    let file = files::six_persons().bytes();
-    for held in [Q_HELD, q_after(A), q_after(&[0, 5])] {
-        let mut asked = held;
-        let told = outside::held_null_output(&mut asked, &file);
-        assert_eq!((told, asked), (refused(16, 0), held));
-        let told = outside::held_null_output(&mut asked, &[]);
-        assert_eq!((told, asked), (refused(1, 0), held));
-    }
-}
-
-// Other than 18 cells.
-
-/// The answer of exactly 2^63.
-const WRONG_SIZE: Answer = Err(Refusal {
-    number: 0,
-    place: 0,
-});
-
-/// Files and outputs that would be refused, and such as would not.
-fn whatever_else_is_lent(mut each: impl FnMut(&[u8], usize)) {
-    let file = files::six_persons().bytes();
-    for file in [&file[..], &file[..187], &[]] {
-        for cells in [0, 9, 10, 45] {
-            each(file, cells);
-        }
-    }
-}
-
-#[test]
-fn other_than_18_cells() {
-    for held in [Q_HELD, q_after(A), q_after(&[0, 5])] {
-        for length in (0..=40).filter(|&length| length != 18) {
-            let mut lent: Vec<u32> = held.iter().copied().cycle().take(length).collect();
-            let came = lent.clone();
-            whatever_else_is_lent(|file, cells| {
-                let mut out = untouched(cells);
-                let told = outside::held(&mut lent, file, &mut out);
-                assert_eq!((told, out), (WRONG_SIZE, untouched(cells)), "{length}");
-                assert_eq!(lent, came);
-            });
-        }
-    }
-}
-
-#[test]
-fn no_held_cells_at_the_null_pointer() {
-    whatever_else_is_lent(|file, cells| {
-        let mut out = untouched(cells);
-        let told = outside::held_null(file, &mut out);
-        assert_eq!((told, out), (WRONG_SIZE, untouched(cells)));
-    });
-}
-
-#[test]
-fn a_length_that_is_18_only_in_its_lower_half() {
-    let held: Vec<u8> = Q_HELD.iter().flat_map(|cell| cell.to_le_bytes()).collect();
-    let vast = Guarded::with_tail(&held, 4 << 32);
-    whatever_else_is_lent(|file, cells| {
-        let mut out = untouched(cells);
-        let told = outside::held_guarded(&vast, file, &mut out);
-        assert_eq!((told, out), (WRONG_SIZE, untouched(cells)));
-    });
-}
-
-// Refusals.
-
-#[test]
-fn every_refusal_of_the_file() {
-    let shape = files::six_persons();
-    let file = shape.bytes();
-    let wrong = Question { from: 9, ..Q };
-    for fault in catalogue(&shape) {
-        let Refusal { number, place } = fault.refusal;
-        let changed = with_faults(&file, &[&fault]);
-        for (question, cells) in [(Q, 30), (Q, 9), (wrong, 30)] {
-            let desk = Desk::new(changed.clone(), question);
-            desk.refuses(desk.fresh(), cells, number, place);
-            desk.refuses(desk.held(1, &record(A)), cells, number, place);
-            desk.refuses(desk.held(2, &[7; 10]), cells, number, place);
-        }
-    }
-}
-
-#[test]
-fn every_refusal_of_the_question() {
-    let mut faults = question_faults(6, Q.from);
-    faults.retain(|fault| fault.number_of_question != 7);
-    for one in &faults {
-        for other in &faults {
-            let together = one.number_of_question != other.number_of_question;
-            if together && one.rank() <= other.rank() {
-                let mut numbers = numbers_of(&Q, 0);
-                numbers[other.number_of_question] = other.value;
-                numbers[one.number_of_question] = one.value;
-                let desk = Desk::six_persons(question_of(&numbers));
-                let Refusal { number, place } = one.refusal;
-                desk.refuses(desk.fresh(), 30, number, place);
-                desk.refuses(desk.held(1, &record(A)), 30, number, place);
-                desk.refuses(desk.held(u32::MAX, &[7; 10]), 9, number, place);
-            }
-        }
-    }
-}
-
-#[test]
-fn sixteen_comes_before_seventeen() {
-    let desk = Desk::six_persons(Q);
-    for cells in 0..10 {
-        for record in [record(A), record(&[0, 5]), [3; 10], [0; 10]] {
-            desk.refuses(desk.held(1, &record), cells, 16, 0);
-            desk.refuses(desk.held(0, &record), cells, 16, 0);
-        }
-    }
-    desk.refuses(desk.held(1, &[3; 10]), 10, 17, 0);
 }

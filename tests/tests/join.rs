@@ -4,145 +4,26 @@
 //! Covers: the cases stated for the six-person file; every question over it; hops 1 to 8; working cells exactly enough,
 //! one short, far too few and more than enough; rooms short of the listing, exact and beyond it; no chain at all; half
 //! chains that nobody reaches or that would visit From; random files and random graphs, also with links both ways; the
-//! same chains as the portion hands over; all links between 64 persons; outputs and working cells of every length, also
-//! none at the null pointer; every refusal, their order, and 16 before 18. Each cell comes with a value of its own, and
-//! the file and the memory beside what is lent have to stay as they came in every call.
+//! same chains as the portion hands over; all links between 64 persons. Sizes and refusals are in `join_refusals.rs`.
+//! Each cell comes with a value of its own, and the file and the memory beside what is lent have to stay as they came in
+//! every call.
 
-use independent::checker::{refused, Refusal};
-use independent::faults::{catalogue, with_faults};
+use independent::asked::{as_they_came, cells_of, Asked};
 use independent::files::{self, random_graph};
 use independent::lent::untouched;
-use independent::lister::{
-    self, half_chains, listed, listing_by_hops, record, Chain, Listed, Question,
-};
+use independent::lister::{listed, listing_by_hops, Question};
 use independent::outside;
-use independent::questions::{
-    first_to_last, numbers_of, question_faults, question_of, random_question, Q,
-};
+use independent::questions::{first_to_last, random_question, A, B, C, Q};
 use independent::random::Random;
 
-type Answer = Result<Listed, Refusal>;
-
-/// A file and a question, with its listing by hops and its half chains by brute force.
-struct Asked {
-    file: Vec<u8>,
-    question: Question,
-    by_hops: Result<Vec<Chain>, Refusal>,
-    halves: Result<Vec<Chain>, Refusal>,
-}
-
-/// An answer, the working cells and the output cells.
-type Joined = (Answer, Vec<u32>, Vec<u32>);
-
-impl Asked {
-    fn new(file: Vec<u8>, question: Question) -> Asked {
-        Asked {
-            by_hops: listing_by_hops(&file, &question),
-            halves: half_chains(&file, &question),
-            file,
-            question,
-        }
-    }
-
-    fn six_persons(question: Question) -> Asked {
-        Asked::new(files::six_persons().bytes(), question)
-    }
-
-    fn random(random: &mut Random, most_persons: usize) -> Asked {
-        loop {
-            let file = files::random_file(random, most_persons);
-            if file.persons() > 1 {
-                let question = random_question(random, file.persons());
-                return Asked::new(file.bytes(), question);
-            }
-        }
-    }
-
-    fn chains(&self) -> &[Chain] {
-        self.by_hops.as_ref().expect("the question passes")
-    }
-
-    /// How many working cells are just enough.
-    fn enough(&self) -> usize {
-        10 * self.halves.as_ref().expect("the question passes").len()
-    }
-
-    /// Asks the library and holds answer and cells against the lister's; gives all three back.
-    fn join(&self, working_cells: usize, cells: usize) -> Joined {
-        let (mut working, mut out) = (untouched(working_cells), untouched(cells));
-        let (mut right_working, mut right_out) = (working.clone(), out.clone());
-        let told = outside::join(&self.file, &self.question, &mut working, &mut out);
-        let right = lister::join(
-            &self.by_hops,
-            &self.halves,
-            &mut right_working,
-            &mut right_out,
-        );
-        let asked = format!(
-            "{:?}, {working_cells} working cells, {cells} cells of {:?}",
-            self.question, self.file
-        );
-        assert_eq!(told, right, "{asked}");
-        assert!(
-            working == right_working,
-            "{asked}:\ntold {working:?}\nright {right_working:?}"
-        );
-        assert!(
-            out == right_out,
-            "{asked}:\ntold {out:?}\nright {right_out:?}"
-        );
-        (told, working, out)
-    }
-
-    /// Working cells around what is enough, and rooms around the count of chains.
-    fn around_the_bounds(&self) {
-        let enough = self.enough();
-        let all = 10 * self.chains().len();
-        for cells in [10, 20, 29, all, all + 9, all + 10, all + 25] {
-            for working in [enough, enough + 1, enough + 9, enough + 10, enough + 35] {
-                let answer = self.join(working, cells).0;
-                assert_eq!(answer.is_ok(), cells >= 10);
-            }
-            for working in [0, 9, enough / 2, enough - 10, enough - 9, enough - 1] {
-                let told = self.join(working, cells);
-                let number = if cells < 10 { 16 } else { 18 };
-                assert_eq!(told, as_they_came(number, 0, working, cells));
-            }
-        }
-    }
-
-    /// The chains handed over with room for all of them.
-    fn joined_chains(&self) -> Vec<Vec<u32>> {
-        let (answer, _, out) = self.join(self.enough(), 10 * self.chains().len() + 10);
-        let count = answer.expect("enough of everything").count as usize;
-        out.chunks(10).take(count).map(<[u32]>::to_vec).collect()
-    }
-
-    /// A call that is refused and leaves all cells as they came.
-    fn refuses(&self, working: usize, cells: usize, number: u32, place: u32) {
-        let told = self.join(working, cells);
-        assert_eq!(told, as_they_came(number, place, working, cells));
-    }
-}
-
-fn as_they_came(number: u32, place: u32, working: usize, cells: usize) -> Joined {
-    (refused(number, place), untouched(working), untouched(cells))
-}
-
-/// The records of the sequences, then the cells that stay.
-fn cells_of(sequences: &[&[u32]], cells: usize) -> Vec<u32> {
-    let mut written = untouched(cells);
-    for (i, sequence) in sequences.iter().enumerate() {
-        written[10 * i..10 * i + 10].copy_from_slice(&record(sequence));
-    }
-    written
+/// The chains handed over with room for all of them.
+fn joined_chains(asked: &Asked) -> Vec<Vec<u32>> {
+    let (answer, _, out) = asked.join(asked.enough(), 10 * asked.chains().len() + 10);
+    let count = answer.expect("enough of everything").count as usize;
+    out.chunks(10).take(count).map(<[u32]>::to_vec).collect()
 }
 
 // The six-person file.
-
-const A: &[u32] = &[0, 1, 3, 5];
-const B: &[u32] = &[0, 2, 1, 3, 5];
-const C: &[u32] = &[0, 2, 3, 5];
 
 /// The half chains of P12.
 const HALVES: [&[u32]; 5] = [&[5], &[3, 5], &[4, 5], &[1, 3, 5], &[2, 3, 5]];
@@ -165,68 +46,32 @@ fn p12_fifty_working_cells_do() {
 fn p12_forty_nine_give_eighteen() {
     let asked = Asked::six_persons(Q);
     for working in 0..50 {
-        asked.refuses(working, 45, 18, 0);
-        asked.refuses(working, 10, 18, 0);
-        asked.refuses(working, 9, 16, 0);
+        asked.refuses_to_join(working, 45, 18, 0);
+        asked.refuses_to_join(working, 10, 18, 0);
+        asked.refuses_to_join(working, 9, 16, 0);
     }
 }
 
 #[test]
 fn the_six_person_file_by_its_hops() {
-    let cases: [(u32, &[&[u32]], &[&[u32]]); 8] = [
-        (1, &HALVES[..1], &[]),
-        (2, &HALVES[..3], &[]),
-        (3, &HALVES[..3], &[A, C]),
-        (4, &HALVES, &[A, C, B]),
-        (5, &HALVES, &[A, C, B]),
-        // Halves of three hops: (2 1 3 5) is the only one that doesn't visit From or 5 twice.
-        (
-            6,
-            &[
-                HALVES[0],
-                HALVES[1],
-                HALVES[2],
-                HALVES[3],
-                HALVES[4],
-                &[2, 1, 3, 5],
-            ],
-            &[A, C, B],
-        ),
-        (
-            7,
-            &[
-                HALVES[0],
-                HALVES[1],
-                HALVES[2],
-                HALVES[3],
-                HALVES[4],
-                &[2, 1, 3, 5],
-            ],
-            &[A, C, B],
-        ),
-        (
-            8,
-            &[
-                HALVES[0],
-                HALVES[1],
-                HALVES[2],
-                HALVES[3],
-                HALVES[4],
-                &[2, 1, 3, 5],
-            ],
-            &[A, C, B],
-        ),
-    ];
-    for (hops, halves, chains) in cases {
+    // Of three hops (2 1 3 5) is the only half chain that visits neither From nor anybody twice.
+    let all: Vec<&[u32]> = HALVES.into_iter().chain([&[2, 1, 3, 5][..]]).collect();
+    let half_chains = [1, 3, 3, 5, 5, 6, 6, 6];
+    for (hops, count) in (1..=8).zip(half_chains) {
         let asked = Asked::six_persons(Question { hops, ..Q });
-        let (working, cells) = (10 * halves.len(), 35);
+        let chains: &[&[u32]] = match hops {
+            1 | 2 => &[],
+            3 => &[A, C],
+            _ => &[A, C, B],
+        };
+        let (working, cells) = (10 * count, 35);
         let right = (
             listed(chains.len() as u64, true),
-            cells_of(halves, working),
+            cells_of(&all[..count], working),
             cells_of(chains, cells),
         );
         assert_eq!(asked.join(working, cells), right, "{hops} hops");
-        asked.refuses(working - 1, cells, 18, 0);
+        asked.refuses_to_join(working - 1, cells, 18, 0);
     }
 }
 
@@ -264,8 +109,8 @@ fn every_question_over_the_six_person_file() {
                         meaning,
                         ..Q
                     });
-                    if asked.by_hops.is_ok() {
-                        asked.around_the_bounds();
+                    if asked.passes() {
+                        asked.joined_around_the_bounds();
                     } else {
                         let _ = asked.join(100, 100);
                     }
@@ -340,11 +185,11 @@ fn paths_of_every_number_of_hops() {
         let asked = Asked::new(file.clone(), first_to_last(persons, hops));
         assert_eq!(asked.chains(), [chain]);
         assert_eq!(asked.enough(), 10 * (hops as usize / 2 + 1));
-        asked.around_the_bounds();
+        asked.joined_around_the_bounds();
         if hops > 1 {
             let asked = Asked::new(file, first_to_last(persons, hops - 1));
             assert!(asked.chains().is_empty());
-            asked.around_the_bounds();
+            asked.joined_around_the_bounds();
         }
     }
 }
@@ -368,7 +213,7 @@ fn halves_that_share_more_than_the_middle() {
     ];
     let file = files::undated(6, &pairs).bytes();
     for hops in 1..=8 {
-        Asked::new(file.clone(), first_to_last(6, hops)).around_the_bounds();
+        Asked::new(file.clone(), first_to_last(6, hops)).joined_around_the_bounds();
     }
 }
 
@@ -387,7 +232,7 @@ fn random_questions_over_random_files() {
         let spare = random.below(30);
         let cells = random.between(10, 10 * asked.chains().len() + 25);
         let _ = asked.join(asked.enough() + spare, cells);
-        asked.refuses(asked.enough() - 1, cells, 18, 0);
+        asked.refuses_to_join(asked.enough() - 1, cells, 18, 0);
     }
     assert!(with_chains > 300, "{with_chains}");
     assert!(by_hops[1..7].iter().all(|&count| count > 50), "{by_hops:?}");
@@ -400,7 +245,7 @@ fn random_graphs_around_the_bounds() {
         let persons = random.between(3, 9);
         let parts = random.between(1, 5);
         let file = random_graph(&mut random, persons, parts).bytes();
-        Asked::new(file, first_to_last(persons, 1 + round % 8)).around_the_bounds();
+        Asked::new(file, first_to_last(persons, 1 + round % 8)).joined_around_the_bounds();
     }
 }
 
@@ -409,17 +254,8 @@ fn two_way_families() {
     let mut random = Random::of_test("two_way_families");
     for round in 0..2_000 {
         let persons = random.between(5, 11);
-        let mut pairs = vec![];
-        for _ in 0..random.between(persons, 2 * persons) {
-            let (one, other) = (random.below(persons) as u32, random.below(persons) as u32);
-            if one != other {
-                pairs.extend([(one, other), (other, one)]);
-            }
-        }
-        pairs.sort();
-        pairs.dedup();
-        let file = files::undated(persons, &pairs).bytes();
-        Asked::new(file, first_to_last(persons, 1 + round % 8)).around_the_bounds();
+        let file = files::two_way_family(&mut random, persons).bytes();
+        Asked::new(file, first_to_last(persons, 1 + round % 8)).joined_around_the_bounds();
     }
 }
 
@@ -432,7 +268,7 @@ fn from_and_to_anywhere() {
         let file = random_graph(&mut random, persons, parts).bytes();
         let mut question = random_question(&mut random, persons);
         question.classes = 15;
-        Asked::new(file, question).around_the_bounds();
+        Asked::new(file, question).joined_around_the_bounds();
     }
 }
 
@@ -454,60 +290,42 @@ fn the_chains_of_the_portion() {
             out.chunks(10).take(count).map(<[u32]>::to_vec).collect();
         // The record starts with the hops, then come the persons: its own order is the order by hops.
         handed_over.sort();
-        assert_eq!(asked.joined_chains(), handed_over);
+        assert_eq!(joined_chains(&asked), handed_over);
     }
     assert!(longest > 500, "{longest}");
 }
 
 // Large files.
 
-/// All links between 64 persons.
-fn everybody_linked() -> Vec<u8> {
-    let mut pairs = vec![];
-    for owner in 0..64 {
-        pairs.extend(
-            (0..64)
-                .filter(|&target| target != owner)
-                .map(|target| (owner, target)),
-        );
-    }
-    files::undated(64, &pairs).bytes()
-}
-
 #[test]
 fn everybody_linked_at_four_hops() {
-    let asked = Asked::new(everybody_linked(), first_to_last(64, 4));
+    let asked = Asked::new(files::everybody_linked(64).bytes(), first_to_last(64, 4));
     assert_eq!((asked.enough(), asked.chains().len()), (38_450, 230_765));
     for cells in [10, 5_005, 2_307_640, 2_307_650, 2_307_660] {
         let (answer, _, _) = asked.join(38_450, cells);
         let count = (cells as u64 / 10).min(230_765);
         assert_eq!(answer, listed(count, count == 230_765));
     }
-    asked.refuses(38_449, 5_005, 18, 0);
-    asked.refuses(38_440, 10, 18, 0);
+    asked.refuses_to_join(38_449, 5_005, 18, 0);
+    asked.refuses_to_join(38_440, 10, 18, 0);
 }
 
 #[test]
 fn everybody_linked_at_six_hops() {
     // The first chains of the listing by hops are those of four hops.
-    let file = everybody_linked();
-    let question = first_to_last(64, 6);
-    let asked = Asked {
-        by_hops: listing_by_hops(&file, &first_to_last(64, 4)),
-        halves: half_chains(&file, &question),
-        file,
-        question,
-    };
+    let file = files::everybody_linked(64).bytes();
+    let first = listing_by_hops(&file, &first_to_last(64, 4)).expect("the question passes");
+    let asked = Asked::new(file, first_to_last(64, 6)).with_first_by_hops(first);
     assert_eq!(asked.enough(), 2_307_650);
     let _ = asked.join(2_307_650, 10);
     let _ = asked.join(2_307_700, 60_007);
-    asked.refuses(2_307_649, 60_007, 18, 0);
+    asked.refuses_to_join(2_307_649, 60_007, 18, 0);
 }
 
 #[test]
 fn more_half_chains_than_fit() {
     // 13,619,045 half chains at 8 hops: the room is exceeded long before they are counted.
-    let file = everybody_linked();
+    let file = files::everybody_linked(64).bytes();
     let question = first_to_last(64, 8);
     for working in [0, 10, 630, 38_450] {
         let (mut cells, mut out) = (untouched(working), untouched(45));
@@ -528,101 +346,6 @@ fn questions_over_a_largest_file() {
         let all = 10 * asked.chains().len();
         let _ = asked.join(asked.enough(), all + 15);
         let _ = asked.join(asked.enough() + 7, 10);
-        asked.refuses(asked.enough() - 1, all + 15, 18, 0);
-    }
-}
-
-// Lengths.
-
-#[test]
-fn working_cells_and_outputs_of_every_length() {
-    let asked = Asked::six_persons(Q);
-    for working in 0..=75 {
-        for cells in 0..=45 {
-            let answer = asked.join(working, cells).0;
-            if cells < 10 {
-                assert_eq!(answer, refused(16, 0));
-            } else if working < 50 {
-                assert_eq!(answer, refused(18, 0));
-            } else {
-                let count = (cells as u64 / 10).min(3);
-                assert_eq!(answer, listed(count, count == 3));
-            }
-        }
-    }
-}
-
-#[test]
-fn no_cells_at_the_null_pointer() {
-    let file = files::six_persons().bytes();
-    let mut out = untouched(30);
-    assert_eq!(
-        outside::join_null_working(&file, &Q, &mut out),
-        refused(18, 0)
-    );
-    assert_eq!(outside::join_null_working(&[], &Q, &mut out), refused(1, 0));
-    assert_eq!(
-        outside::join_null_working(&file, &Q, &mut out[..9]),
-        refused(16, 0)
-    );
-    for working in [0, 49, 50] {
-        let mut working = untouched(working);
-        let told = outside::join_null_output(&file, &Q, &mut working);
-        assert_eq!(told, refused(16, 0));
-        let told = outside::join_null_output(&file[..187], &Q, &mut working);
-        assert_eq!(told, refused(3, 0));
-    }
-}
-
-// Refusals.
-
-#[test]
-fn every_refusal_of_the_file() {
-    let shape = files::six_persons();
-    let file = shape.bytes();
-    let wrong = Question { from: 9, ..Q };
-    for fault in catalogue(&shape) {
-        let Refusal { number, place } = fault.refusal;
-        let changed = with_faults(&file, &[&fault]);
-        for (question, working, cells) in [(Q, 50, 30), (Q, 49, 30), (Q, 49, 9), (wrong, 0, 0)] {
-            let asked = Asked::new(changed.clone(), question);
-            asked.refuses(working, cells, number, place);
-        }
-    }
-}
-
-#[test]
-fn every_refusal_of_the_question() {
-    let mut faults = question_faults(6, Q.from);
-    faults.retain(|fault| fault.number_of_question != 7);
-    for one in &faults {
-        for other in &faults {
-            let together = one.number_of_question != other.number_of_question;
-            if together && one.rank() <= other.rank() {
-                let mut numbers = numbers_of(&Q, 0);
-                numbers[other.number_of_question] = other.value;
-                numbers[one.number_of_question] = one.value;
-                let asked = Asked::six_persons(question_of(&numbers));
-                let Refusal { number, place } = one.refusal;
-                for (working, cells) in [(100, 45), (100, 9), (9, 45), (0, 0)] {
-                    asked.refuses(working, cells, number, place);
-                }
-            }
-        }
-    }
-}
-
-#[test]
-fn sixteen_comes_before_eighteen() {
-    let mut random = Random::of_test("sixteen_comes_before_eighteen");
-    let mut all = vec![Asked::six_persons(Q)];
-    all.extend((0..300).map(|_| Asked::random(&mut random, 6)));
-    for asked in all {
-        for cells in 0..10 {
-            for working in [0, asked.enough() - 1, asked.enough(), asked.enough() + 10] {
-                asked.refuses(working, cells, 16, 0);
-            }
-        }
-        asked.refuses(asked.enough() - 1, 10, 18, 0);
+        asked.refuses_to_join(asked.enough() - 1, all + 15, 18, 0);
     }
 }

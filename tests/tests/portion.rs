@@ -1,116 +1,23 @@
 //! The portion, through `kin_portion`, against the brute-force lister: answer and every output cell.
 //!
 //! Covers: every case stated for the six-person file but the half chains; small graphs on which wrong pruning loses
-//! chains, fresh and resumed at every chain; every split of small listings into portions and random splits of larger
-//! ones; random files; listings too long to write down, by the chain that follows; a large dead region; outputs of every
-//! length; bookmarks of the wrong length, with every cell changed, of other questions, after the file changed; the order
-//! of refusals 1 to 17; what a fresh start ignores. File and bookmark have to stay as they came in every call, and the
-//! output's cells are compared whole.
+//! chains, fresh and resumed at every chain; a large dead region; outputs of every length; the order of refusals 1 to 17.
+//! Long and random listings are in `listings.rs`, bookmarks in `bookmarks.rs`. File and bookmark have to stay as they
+//! came in every call, and the output's cells are compared whole.
 
-use independent::checker::{refused, Refusal, LAST_DAY};
+use independent::asked::{cells_of, Asked};
+use independent::checker::{refused, LAST_DAY};
 use independent::faults::{catalogue, with_faults};
-use independent::files::{self, random_graph};
+use independent::files;
 use independent::lent::untouched;
-use independent::lister::{self, following, listed, listing, record, Chain, Listed, Question};
+use independent::lister::{listed, record, Question};
 use independent::outside;
 use independent::questions::{
-    first_to_last, numbers_of, question_faults, question_of, random_question, Q,
+    first_to_last, numbers_of, question_faults, question_of, random_question, A, B, C, Q,
 };
 use independent::random::Random;
 
-type Answer = Result<Listed, Refusal>;
-
-/// A file, a question and its listing by brute force.
-struct Asked {
-    file: Vec<u8>,
-    question: Question,
-    listing: Result<Vec<Chain>, Refusal>,
-}
-
-impl Asked {
-    fn new(file: Vec<u8>, question: Question) -> Asked {
-        let listing = listing(&file, &question);
-        Asked {
-            file,
-            question,
-            listing,
-        }
-    }
-
-    fn six_persons(question: Question) -> Asked {
-        Asked::new(files::six_persons().bytes(), question)
-    }
-
-    fn chains(&self) -> &[Chain] {
-        self.listing.as_ref().expect("the question passes")
-    }
-
-    /// Asks the library for a portion and holds answer and cells against the lister's; gives both back.
-    fn portion(&self, started: u32, bookmark: &[u32], cells: usize) -> (Answer, Vec<u32>) {
-        let mut out = untouched(cells);
-        let mut right_out = out.clone();
-        let told = outside::portion(&self.file, &self.question, started, bookmark, &mut out);
-        let right = lister::portion(&self.listing, started, bookmark, &mut right_out);
-        assert!(
-            told == right && out == right_out,
-            "{:?}, started {started}, bookmark {bookmark:?}, {cells} cells of {:?}:\ntold {told:?} {out:?}\nright {right:?} {right_out:?}",
-            self.question,
-            self.file
-        );
-        (told, out)
-    }
-
-    /// Hands over the whole listing by portions with these rooms, the last of them again and again.
-    fn by_rooms(&self, rooms: &[usize]) {
-        let mut handed_over: Vec<[u32; 10]> = vec![];
-        let mut rooms = rooms.iter().copied().chain(std::iter::repeat(1));
-        loop {
-            let room = rooms.next().expect("rooms never end");
-            let (answer, out) = match handed_over.last() {
-                None => self.portion(0, &[], 10 * room),
-                Some(last) => self.portion(1, last, 10 * room),
-            };
-            let listed = answer.expect("neither file nor question is refused");
-            for i in 0..listed.count as usize {
-                let cells = &out[10 * i..10 * i + 10];
-                handed_over.push(cells.try_into().expect("ten cells"));
-            }
-            if listed.ended {
-                break;
-            }
-        }
-        let whole: Vec<[u32; 10]> = self.chains().iter().map(|chain| record(chain)).collect();
-        assert_eq!(handed_over, whole, "{:?}", self.question);
-    }
-
-    /// Fresh and after every chain, with several rooms.
-    fn fresh_and_resumed(&self) {
-        let count = self.chains().len();
-        for room in [1, 2, 3, count, count + 1] {
-            if room > 0 {
-                let _ = self.portion(0, &[], 10 * room);
-                for chain in self.chains() {
-                    let _ = self.portion(1, &record(chain), 10 * room);
-                }
-            }
-        }
-    }
-}
-
-/// The records of the chains, then the cells that stay.
-fn cells_of(chains: &[&[u32]], cells: usize) -> Vec<u32> {
-    let mut out = untouched(cells);
-    for (i, chain) in chains.iter().enumerate() {
-        out[10 * i..10 * i + 10].copy_from_slice(&record(chain));
-    }
-    out
-}
-
 // The stated cases.
-
-const A: &[u32] = &[0, 1, 3, 5];
-const B: &[u32] = &[0, 2, 1, 3, 5];
-const C: &[u32] = &[0, 2, 3, 5];
 
 /// A question about the six-person file whose whole listing is stated.
 fn lists(question: Question, chains: &[&[u32]]) {
@@ -190,8 +97,9 @@ fn every_question_over_the_six_person_file() {
                     };
                     let asked = Asked::six_persons(question);
                     let _ = asked.portion(0, &[], 100);
-                    if asked.listing.is_ok() {
-                        asked.fresh_and_resumed();
+                    if asked.passes() {
+                        asked.fresh_with_every_room();
+                        asked.resumed_at_every_chain();
                     }
                 }
             }
@@ -205,7 +113,8 @@ fn lists_of_graph(persons: usize, pairs: &[(u32, u32)], hops: u32, chains: &[&[u
     let file = files::undated(persons, pairs).bytes();
     let asked = Asked::new(file, first_to_last(persons, hops));
     assert_eq!(asked.chains(), chains);
-    asked.fresh_and_resumed();
+    asked.fresh_with_every_room();
+    asked.resumed_at_every_chain();
     asked.by_rooms(&[]);
 }
 
@@ -257,7 +166,8 @@ fn several_kinds_in_one_small_graph() {
     file.rows[1][1].kind = 5;
     let asked = Asked::new(file.bytes(), first_to_last(5, 4));
     assert_eq!(asked.chains(), [vec![0, 1, 4], vec![0, 3, 2, 1, 4]]);
-    asked.fresh_and_resumed();
+    asked.fresh_with_every_room();
+    asked.resumed_at_every_chain();
     for classes in 1..=15 {
         let question = Question {
             classes,
@@ -322,236 +232,6 @@ fn a_large_dead_region() {
     assert_eq!((told, out), (listed(0, true), untouched(10)));
 }
 
-// Splits.
-
-/// Every way to write `sum` as a sequence of numbers of at least 1.
-fn splits(sum: usize) -> Vec<Vec<usize>> {
-    if sum == 0 {
-        return vec![vec![]];
-    }
-    let mut all = vec![];
-    for first in 1..=sum {
-        for mut rest in splits(sum - first) {
-            rest.insert(0, first);
-            all.push(rest);
-        }
-    }
-    all
-}
-
-#[test]
-fn every_split_of_small_listings() {
-    let mut random = Random::of_test("every_split_of_small_listings");
-    let mut by_count = [0; 8];
-    Asked::six_persons(Q).by_rooms(&[]);
-    for _ in 0..15_000 {
-        let asked = random_asked(&mut random, 7);
-        let count = asked.chains().len();
-        if count < 8 && by_count[count] < 25 {
-            by_count[count] += 1;
-            for rooms in splits(count) {
-                asked.by_rooms(&rooms);
-            }
-            asked.by_rooms(&[count + 1]);
-        }
-    }
-    assert!(by_count.iter().all(|&count| count >= 5), "{by_count:?}");
-}
-
-#[test]
-fn random_splits_of_larger_listings() {
-    let mut random = Random::of_test("random_splits_of_larger_listings");
-    let mut longest = 0;
-    for round in 0..120 {
-        let asked = if round % 2 == 0 {
-            random_asked(&mut random, 9)
-        } else {
-            let persons = random.between(6, 8);
-            let parts = random.between(6, 10);
-            let file = random_graph(&mut random, persons, parts).bytes();
-            Asked::new(file, first_to_last(persons, 8))
-        };
-        longest = longest.max(asked.chains().len());
-        let most = random.one_of(&[3, 20, 200]);
-        let rooms: Vec<usize> = (0..2_000).map(|_| random.between(1, most)).collect();
-        asked.by_rooms(&rooms);
-    }
-    assert!(longest > 300, "{longest}");
-}
-
-fn random_asked(random: &mut Random, most_persons: usize) -> Asked {
-    loop {
-        let file = files::random_file(random, most_persons);
-        if file.persons() > 1 {
-            let question = random_question(random, file.persons());
-            return Asked::new(file.bytes(), question);
-        }
-    }
-}
-
-// Random files.
-
-#[test]
-fn random_questions_over_random_files() {
-    let mut random = Random::of_test("random_questions_over_random_files");
-    let mut with_chains = 0;
-    for _ in 0..30_000 {
-        let asked = random_asked(&mut random, 7);
-        let room = random.one_of(&[1, 2, 5, 30, 400]);
-        let spare = random.below(10);
-        let _ = asked.portion(0, &[], 10 * room + spare);
-        let chains = asked.chains();
-        with_chains += usize::from(!chains.is_empty());
-        for _ in 0..chains.len().min(3) {
-            let chain = &chains[random.below(chains.len())];
-            let _ = asked.portion(1, &record(chain), 10 * room + spare);
-        }
-    }
-    assert!(with_chains > 5_000, "{with_chains}");
-}
-
-#[test]
-fn random_graphs_resumed_at_every_chain() {
-    let mut random = Random::of_test("random_graphs_resumed_at_every_chain");
-    for _ in 0..40_000 {
-        let persons = random.between(4, 9);
-        let parts = random.between(1, 4);
-        let file = random_graph(&mut random, persons, parts).bytes();
-        let hops = random.between(2, 8) as u32;
-        let asked = Asked::new(file, first_to_last(persons, hops));
-        let cells = 10 * (asked.chains().len() + 1);
-        let _ = asked.portion(0, &[], cells);
-        for chain in asked.chains() {
-            let _ = asked.portion(1, &record(chain), cells);
-        }
-    }
-}
-
-#[test]
-fn two_way_families() {
-    // Links both ways, as between relatives: ways close and reopen more often than in other graphs.
-    let mut random = Random::of_test("two_way_families");
-    for _ in 0..8_000 {
-        let persons = random.between(5, 11);
-        let mut pairs = vec![];
-        for _ in 0..random.between(persons, 2 * persons) {
-            let (one, other) = (random.below(persons) as u32, random.below(persons) as u32);
-            if one != other {
-                pairs.extend([(one, other), (other, one)]);
-            }
-        }
-        pairs.sort();
-        pairs.dedup();
-        let hops = random.between(3, 8) as u32;
-        let file = files::undated(persons, &pairs).bytes();
-        let asked = Asked::new(file, first_to_last(persons, hops));
-        let cells = 10 * (asked.chains().len() + 1);
-        let _ = asked.portion(0, &[], cells);
-        for chain in asked.chains().iter().step_by(3) {
-            let _ = asked.portion(1, &record(chain), cells);
-        }
-    }
-}
-
-// Large files.
-
-#[test]
-fn sparse_questions_over_largest_files() {
-    let mut random = Random::of_test("sparse_questions_over_largest_files");
-    for _ in 0..20 {
-        let file = files::largest().bytes();
-        let mut question = random_question(&mut random, 1024);
-        question.hops = random.between(1, 6) as u32;
-        let asked = Asked::new(file, question);
-        let cells = 10 * asked.chains().len() + 25;
-        let _ = asked.portion(0, &[], cells);
-        let _ = asked.portion(0, &[], 10);
-        for chain in asked.chains().iter().step_by(7) {
-            let _ = asked.portion(1, &record(chain), 25);
-        }
-    }
-}
-
-/// Asks for portions from a chain on, and for each record whether it is the chain that follows the one before.
-fn follow(file: &[u8], question: &Question, start: &[u32], room: usize, portions: usize) {
-    let mut last = start.to_vec();
-    for _ in 0..portions {
-        let mut out = untouched(10 * room);
-        let told = outside::portion(file, question, 1, &record(&last), &mut out);
-        let Ok(Listed { count, ended }) = told else {
-            panic!("{last:?} is a chain: told {told:?}");
-        };
-        for i in 0..count as usize {
-            let next = following(file, question, &last).expect("no more than there are");
-            assert_eq!(out[10 * i..10 * i + 10], record(&next), "after {last:?}");
-            last = next;
-        }
-        let end = 10 * count as usize;
-        assert_eq!(out[end..], untouched(10 * room)[end..]);
-        assert!(ended || count as usize == room);
-        assert_eq!(ended, following(file, question, &last).is_none());
-    }
-}
-
-/// All links between 64 persons: 2.5 * 10^12 chains of at most 8 hops.
-fn everybody_linked() -> Vec<u8> {
-    let mut pairs = vec![];
-    for owner in 0..64 {
-        pairs.extend(
-            (0..64)
-                .filter(|&target| target != owner)
-                .map(|target| (owner, target)),
-        );
-    }
-    files::undated(64, &pairs).bytes()
-}
-
-#[test]
-fn a_listing_too_long_to_write_down() {
-    let mut random = Random::of_test("a_listing_too_long_to_write_down");
-    let file = everybody_linked();
-    let question = first_to_last(64, 8);
-    let mut out = untouched(10);
-    let first = [0, 1, 2, 3, 4, 5, 6, 7, 63];
-    let told = outside::portion(&file, &question, 0, &[], &mut out);
-    assert_eq!((told, &out[..]), (listed(1, false), &record(&first)[..]));
-    follow(&file, &question, &first, 40, 3);
-    for _ in 0..15 {
-        let start = random_chain(&mut random, 8);
-        follow(&file, &question, &start, 7, 1);
-    }
-    // The very last chains.
-    follow(&file, &question, &[0, 62, 61, 60, 59, 58, 57, 55, 63], 5, 1);
-    follow(&file, &question, &[0, 62, 61, 63], 5, 1);
-    follow(&file, &question, &[0, 62, 63], 5, 2);
-}
-
-/// From 0 to 63 over different persons, 1 to `most_hops` hops.
-fn random_chain(random: &mut Random, most_hops: usize) -> Chain {
-    let mut between: Vec<u32> = (1..63).collect();
-    random.shuffle(&mut between);
-    between.truncate(random.below(most_hops));
-    [vec![0], between, vec![63]].concat()
-}
-
-#[test]
-fn long_listings_of_random_dense_graphs() {
-    let mut random = Random::of_test("long_listings_of_random_dense_graphs");
-    for _ in 0..10 {
-        let persons = random.between(20, 60);
-        let file = random_graph(&mut random, persons, 5).bytes();
-        let question = first_to_last(persons, random.between(5, 8) as u32);
-        let mut out = untouched(10);
-        let told = outside::portion(&file, &question, 0, &[], &mut out);
-        if told == listed(1, false) {
-            let hops = out[0] as usize;
-            let first = out[1..hops + 2].to_vec();
-            assert_eq!(Some(&first), lister::first(&file, &question).as_ref());
-            follow(&file, &question, &first, 30, 3);
-        }
-    }
-}
-
 // Output.
 
 #[test]
@@ -581,177 +261,6 @@ fn no_cells_at_the_null_pointer() {
     let mut out = untouched(30);
     let told = outside::portion_null_bookmark(&file, &Q, &mut out);
     assert_eq!((told, out), (listed(3, true), cells_of(&[A, B, C], 30)));
-}
-
-// Bookmarks.
-
-#[test]
-fn a_fresh_start_ignores_the_bookmark() {
-    let asked = Asked::six_persons(Q);
-    for bookmark in [&[][..], &[9; 3], &record(B), &[u32::MAX; 10], &[0; 40]] {
-        let (answer, _) = asked.portion(0, bookmark, 30);
-        assert_eq!(answer, listed(3, true));
-    }
-}
-
-#[test]
-fn any_number_but_0_is_started() {
-    let asked = Asked::six_persons(Q);
-    for started in [1, 2, 255, 256, 65_536, 1 << 31, u32::MAX] {
-        assert_eq!(asked.portion(started, &record(A), 30).0, listed(2, true));
-        assert_eq!(asked.portion(started, &[], 30).0, refused(17, 0));
-    }
-}
-
-#[test]
-fn bookmarks_of_the_wrong_length() {
-    let asked = Asked::six_persons(Q);
-    let mut cells = record(A).to_vec();
-    cells.resize(40, 0);
-    for length in (0..=40).filter(|&length| length != 10) {
-        let (answer, out) = asked.portion(1, &cells[..length], 30);
-        assert_eq!((answer, out), (refused(17, 0), untouched(30)), "{length}");
-    }
-}
-
-#[test]
-fn every_cell_of_a_bookmark_changed() {
-    let mut random = Random::of_test("every_cell_of_a_bookmark_changed");
-    let mut all = vec![Asked::six_persons(Q)];
-    all.extend((0..150).map(|_| random_asked(&mut random, 6)));
-    for asked in all {
-        for chain in asked.chains().iter().take(20) {
-            for cell in 0..10 {
-                for value in (0..12).chain([256, 65_536, 1 << 31, u32::MAX]) {
-                    let mut bookmark = record(chain);
-                    bookmark[cell] = value;
-                    let _ = asked.portion(1, &bookmark, 20);
-                    bookmark[cell] = record(chain)[cell].wrapping_add(value << 16);
-                    let _ = asked.portion(1, &bookmark, 20);
-                }
-            }
-        }
-    }
-}
-
-#[test]
-fn two_cells_of_a_bookmark_changed() {
-    let mut random = Random::of_test("two_cells_of_a_bookmark_changed");
-    let mut still_chains = 0;
-    for _ in 0..6_000 {
-        let asked = random_asked(&mut random, 6);
-        for chain in asked.chains().iter().take(5) {
-            for _ in 0..20 {
-                let mut bookmark = record(chain);
-                for _ in 0..2 {
-                    // Mostly persons, so that another chain comes out now and then.
-                    let last = random.one_of(&[chain.len(), chain.len(), 9]);
-                    bookmark[random.between(0, last)] = random.below(7) as u32;
-                }
-                let (answer, _) = asked.portion(1, &bookmark, 20);
-                let changed = bookmark != record(chain);
-                still_chains += usize::from(changed && answer.is_ok());
-            }
-        }
-    }
-    assert!(still_chains > 20, "{still_chains}");
-}
-
-#[test]
-fn sequences_that_are_nearly_chains() {
-    let asked = Asked::six_persons(Question { hops: 8, ..Q });
-    let wrong: [&[u32]; 12] = [
-        &[0],                         // From alone
-        &[5],                         // To alone
-        &[1, 3, 5],                   // a beginning left out
-        &[0, 1, 3],                   // an end left out
-        &[0, 5],                      // no such link
-        &[0, 3, 5],                   // no such link at the start
-        &[0, 1, 4, 5],                // a link not admitted
-        &[0, 1, 3, 2, 1, 3, 5],       // a person twice
-        &[0, 2, 3, 2, 3, 5],          // persons twice
-        &[0, 1, 3, 5, 0],             // beyond To
-        &[0, 1, 3, 5, 0, 1, 3, 5],    // To and From passed
-        &[0, 1, 3, 5, 0, 2, 1, 3, 5], // the same, as long as a record holds
-    ];
-    for sequence in wrong {
-        let (answer, out) = asked.portion(1, &record(sequence), 30);
-        assert_eq!(
-            (answer, out),
-            (refused(17, 0), untouched(30)),
-            "{sequence:?}"
-        );
-    }
-    // A record of no hops, and zeros alone.
-    assert_eq!(asked.portion(1, &[0; 10], 30).0, refused(17, 0));
-    assert_eq!(
-        asked.portion(1, &[9, 0, 1, 3, 5, 0, 0, 0, 0, 0], 30).0,
-        refused(17, 0)
-    );
-}
-
-#[test]
-fn ways_that_visit_a_person_twice_are_no_bookmarks() {
-    // Every sequence of up to five persons over small graphs: admitted at each hop or not, simple or not.
-    let mut random = Random::of_test("ways_that_visit_a_person_twice_are_no_bookmarks");
-    for _ in 0..40 {
-        let file = random_graph(&mut random, 4, 7).bytes();
-        let asked = Asked::new(file, first_to_last(4, random.between(1, 8) as u32));
-        for code in 0..4u32.pow(6) {
-            let length = 1 + code as usize % 6;
-            let persons: Vec<u32> = (0..length as u32).map(|i| code / 4u32.pow(i) % 4).collect();
-            let _ = asked.portion(1, &record(&persons), 10);
-        }
-    }
-}
-
-#[test]
-fn bookmarks_of_another_question() {
-    let mut random = Random::of_test("bookmarks_of_another_question");
-    let (mut kept, mut bad) = (0, 0);
-    for _ in 0..3_000 {
-        let asked = random_asked(&mut random, 6);
-        let n = u32::from_le_bytes(asked.file[4..8].try_into().expect("four bytes"));
-        let mut question = random_question(&mut random, n as usize);
-        if random.chance(2, 3) {
-            (question.from, question.to) = (asked.question.from, asked.question.to);
-        }
-        let other = Asked::new(asked.file.clone(), question);
-        for chain in asked.chains().iter().take(5) {
-            match other.portion(1, &record(chain), 20).0 {
-                Ok(_) => kept += 1,
-                Err(_) => bad += 1,
-            }
-        }
-    }
-    assert!(kept > 100 && bad > 100, "{kept} kept, {bad} bad");
-}
-
-#[test]
-fn bookmarks_after_the_file_changed() {
-    let mut random = Random::of_test("bookmarks_after_the_file_changed");
-    let (mut kept, mut bad) = (0, 0);
-    for _ in 0..3_000 {
-        let mut shape = files::random_file(&mut random, 6);
-        if shape.links() == 0 {
-            continue;
-        }
-        let question = random_question(&mut random, shape.persons());
-        let before = Asked::new(shape.bytes(), question);
-        let owner = random.below(shape.persons());
-        let row = &mut shape.rows[owner];
-        if !row.is_empty() {
-            row.remove(random.below(row.len()));
-        }
-        let after = Asked::new(shape.bytes(), question);
-        for chain in before.chains().iter().take(8) {
-            match after.portion(1, &record(chain), 20).0 {
-                Ok(_) => kept += 1,
-                Err(_) => bad += 1,
-            }
-        }
-    }
-    assert!(kept > 100 && bad > 100, "{kept} kept, {bad} bad");
 }
 
 // The order of refusals.

@@ -2,14 +2,14 @@
 //!
 //! Covers: every person of the six-person file, of random files and of largest ones; persons out of range, also such
 //! as would be in range with high bits cut off; files with each fault of the catalogue, where every view is empty;
-//! damaged files; the empty slice; files behind which nothing may be read. That the file stays as it came is asked in
-//! every call.
+//! damaged files; the empty slice; files before or behind which nothing may be read. That the file stays as it came is
+//! asked in every call.
 
 use independent::checker;
 use independent::faults::{catalogue, with_faults};
 use independent::files::{self, LinkFile};
-use independent::lent::Guarded;
-use independent::outside;
+use independent::lent::VastTail;
+use independent::outside::{self, AT_THE_EDGES};
 use independent::random::Random;
 
 /// Persons that no file has, or that a file of `n` persons has not.
@@ -152,19 +152,22 @@ fn the_empty_slice_has_no_view() {
     for person in [0, 1, u32::MAX] {
         assert_eq!(outside::row(&[], person), 0);
         assert_eq!(outside::row_null(person), 0);
-        assert_eq!(outside::row_guarded(&Guarded::new(&[]), person), 0);
+        for library in AT_THE_EDGES {
+            assert_eq!(library.row(&[], person), 0);
+        }
     }
 }
 
-/// Asks with a file that ends where nothing more may be read.
+/// Asks with a file before or behind which nothing may be read.
 fn view_at_the_edge(file: &[u8], person: u32) {
-    let guarded = Guarded::new(file);
     let right = checker::row_view(file, person).len() as u64;
-    assert_eq!(outside::row_guarded(&guarded, person), right);
+    for library in AT_THE_EDGES {
+        assert_eq!(library.row(file, person), right);
+    }
 }
 
 #[test]
-fn nothing_is_read_beyond_the_slice() {
+fn nothing_is_read_beside_the_slice() {
     let file = files::six_persons().bytes();
     for length in 0..=file.len() {
         for person in [0, 5, 6, u32::MAX] {
@@ -179,8 +182,8 @@ fn nothing_is_read_beyond_the_slice() {
 
 #[test]
 fn a_slice_of_more_than_32_bits_of_bytes_has_no_view() {
-    let vast = Guarded::with_vast_tail(&files::six_persons().bytes());
+    let vast = VastTail::new(&files::six_persons().bytes(), 1 << 32);
     for person in 0..7 {
-        assert_eq!(outside::row_guarded(&vast, person), 0);
+        assert_eq!(outside::row_vast(&vast, person), 0);
     }
 }
