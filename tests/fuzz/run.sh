@@ -13,7 +13,7 @@ mkdir -p "$made/corpus" "$made/found"
 missing=()
 command -v clang++ >/dev/null || missing+=(clang)
 command -v objdump >/dev/null || missing+=(binutils)
-command -v gawk >/dev/null || missing+=(gawk)
+command -v python3 >/dev/null || missing+=(python3)
 ls /usr/lib/llvm-*/lib/clang/*/lib/linux/libclang_rt.fuzzer-x86_64.a >/dev/null 2>&1 || missing+=(libclang-rt-14-dev)
 if [ ${#missing[@]} -gt 0 ]; then
   apt-get install -y --no-install-recommends "${missing[@]}"
@@ -29,7 +29,7 @@ clang -O2 -Wall -Wextra -Werror -c "$here/blocks.c" -o "$made/blocks.o"
 clang++ -fsanitize=fuzzer "$made/blocks.o" "$made/build/$host/release/libfuzz.a" -o "$made/fuzz" -lpthread -ldl -lm
 
 nm "$root/target/staticlib/liboutside.a" | awk '$2 ~ /^[tT]$/ { print $3 }' >"$made/functions"
-objdump -d --no-show-raw-insn "$made/fuzz" | gawk -v names="$made/functions" -f "$here/blocks.awk" | sort -n >"$made/blocks"
+objdump -d --no-show-raw-insn "$made/fuzz" | python3 "$here/blocks.py" "$made/functions" >"$made/blocks"
 
 # The first inputs are generated files with questions about them.
 (cd "$root/tests" && cargo run --release --offline --quiet --example seeds -- "$made/corpus")
