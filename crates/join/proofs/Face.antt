@@ -25,15 +25,15 @@ use Rattle.compact.specs.Marks.{Marked}
 use Rattle.compact.proofs.Marking.{nobody, marked-more}
 use Rattle.pages.specs.Pages.{Page, emits, blank, recordWith}
 use Rattle.join.specs.Answers.{Passed, halvesIn, JoinsIn}
-use Rattle.join.specs.Pages.{page}
-use Rattle.join.specs.Walks.{rightsOf}
-use Rattle.join.specs.Shelf.{Ended, nothing, halvesBefore, placesAtMost, Shelve, Shelved, fromOne, waysOf, Gather, Gathered}
+use Rattle.half_chains.specs.Pages.{page}
+use Rattle.half_chains.specs.Walks.{rightsOf}
+use Rattle.half_chains.specs.Shelf.{Ended, nothing, halvesBefore, placesAtMost, Shelve, Shelved, fromOne, waysOf, Gather, Gathered}
 use Rattle.portion.specs.declared.Answer as code
-use Rattle.join.specs.declared.extend.Found.{Found}
-use Rattle.join.proofs.Meeting.{meet-all}
+use Rattle.half_chains.specs.declared.extend.Found.{Found}
+use Rattle.half_chains.proofs.Meeting.{meet-all}
 use Rattle.pages.proofs.Recording.{records-blank, records-first}
 use Rattle.pages.proofs.Handing.{emits-cells, emits-noted, emits-written}
-use Rattle.join.proofs.Standing.{rights-ending, indexed-ending, low-persons, all-halves, all-fit, rights-index, indexed-halves}
+use Rattle.half_chains.proofs.Standing.{rights-ending, indexed-ending, low-persons, all-halves, all-fit, rights-index, indexed-halves}
 
 -- From is marked
 abbrev pub marked-from : ℕ → List Bool

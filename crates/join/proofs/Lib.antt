@@ -1,9 +1,4 @@
--- Laws of this room: one file for each of its steps, from a cell that is copied to the answer.
-pub mod Writing
-pub mod Steps
-pub mod Shelving
-pub mod Meeting
-pub mod Standing
+-- Laws of this room: from half chains in their places to the answer, refusal numbers, and one result only.
 pub mod Face
 pub mod Public
 pub mod Numbered

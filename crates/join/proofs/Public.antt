@@ -28,7 +28,7 @@ use Rattle.question.proofs.Leads.{next-none}
 use Rattle.join.specs.Lists.{halvesFor, chainsFor, roomFault, halvesFault, joinFault}
 use Rattle.join.specs.Answers.{Answered, Joins, Passed, halvesIn, JoinsIn}
 use Rattle.portion.specs.declared.Answer as code
-use Rattle.join.proofs.Standing.{low-persons}
+use Rattle.half_chains.proofs.Standing.{low-persons}
 
 first-sound : (a b : Fault) → firstOf a b ≡ sound → a ≡ sound
 first-sound sound b e = refl

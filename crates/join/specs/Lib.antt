@@ -1,6 +1,3 @@
--- What the join promises (Answers, over Lists); and, for this room alone, what its own functions ask of each other.
+-- What the join promises (Answers), of which lists (Lists). Definitions only.
 pub mod Lists
 pub mod Answers
-pub mod Pages
-pub mod Walks
-pub mod Shelf

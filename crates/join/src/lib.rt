@@ -1,27 +1,19 @@
 // The join: chains put together of two halves that share only the middle person.
 //
-// All half chains, the simple sequences that end at To and do not visit From, are counted first and then written to the lent
-// working cells; then the chains of 1, 2, .. hops are found by their left halves, each with the right halves that start
-// where it ends. It promises the listing by hops, shorter first, then in dictionary order, and every cell that it leaves.
-mod chains;
-mod extend;
-mod halves;
-mod pairs;
-mod records;
-
+// The public face of the half chains: it refuses by number, in order, and has all half chains counted before any is written to the
+// lent working cells; then the chains are gathered from them. It promises the listing by hops, shorter first, then in dictionary
+// order, and every cell that it leaves.
 ghost use Rattle.join.specs.Answers.{Joins, Passed, JoinsIn};
 use compact::LINKS;
 use compact::PERSONS;
 use compact::STARTS;
+use half_chains::INDEX;
+use half_chains::chains;
+use half_chains::halves;
 use linkfile::Fault;
 use portion::Answer;
 use question::Question;
-use ways::HOPS;
 use ways::RECORD;
-
-// The index of the half chains, which have at most half the hops, has a place for each number of hops and each first person, and
-// an end.
-pub const INDEX: usize = (HOPS / 2 + 1) * PERSONS + 1;
 
 // The join over the compact graph: the half chains are counted before any cell is written.
 fn join_graph(

@@ -3,7 +3,7 @@ use borrow.Author.Needs.{needs}
 use mathlib.Core.Path.{refl, sym, _∙_}
 use Prim.Native.Nat.{ℕ, suc}
 use lib.ListN.{length-replicate}
-use Rattle.join.specs.Shelf.{placesAtMost}
+use Rattle.half_chains.specs.Shelf.{placesAtMost}
 use Rattle.join.proofs.Face.{graph-shelve, graph-refused, graph-gather, graph-joined}
 use Rattle.join.proofs.join_graph.Statement.{statement}
 use Rattle.join.proofs.join_graph.Tie as tie

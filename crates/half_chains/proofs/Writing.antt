@@ -1,0 +1,84 @@
+-- Handing over a chain of the join: its record is put together where it lies.
+use mathlib.Core.Path.{_≡_, sym, ap, _∙_}
+use mathlib.Core.List.{List, _++_}
+use Prim.Native.Nat.{ℕ, zero, suc, _+_, _-_, _*_, _≤_, _<_}
+use lib.ListN.{length, take, drop, getD, set, length-drop}
+use lib.Seq.{paste, paste-zero, paste-suc, length-paste, length-take-le, take-take, getD-drop}
+use native.Mathlib.Omega.{arith}
+use native.Mathlib.Nat.{add-zero, add-assoc, le-refl}
+use borrow.Author.Tests.{eq-eqb, ne-eqb, lt-ltb, le-ltb}
+use Rattle.ways.specs.Sizes.{recordSize}
+use Rattle.pages.specs.Pages.{recordWith}
+use Rattle.pages.proofs.Copying.{Copying, copy-turn, paste-set}
+use Rattle.pages.proofs.Recording.{recordWith-paste}
+use Rattle.half_chains.specs.Pages.{part, Behind, Room, Handed}
+use Rattle.half_chains.specs.declared.extend.Walk.{Walk}
+use Rattle.half_chains.specs.declared.extend.Found.{Found}
+
+-- ---- `append`
+
+module _ {out₀ : List ℕ} {at : ℕ} {halves : List ℕ} {from n : ℕ} (b : Behind out₀ at halves from n) where
+  pub append-long : n ≤ length (drop from halves)
+  append-long = rw length-drop (omega (arith, b .there))
+
+  pub append-turn : {out : List ℕ} {i : ℕ} → Copying out₀ at (drop from halves) n out i → i < n → Copying out₀ at (drop from halves) n (set out (at + i) (getD halves (from + i) 0)) (i + 1)
+  append-turn {i = i} p lt = rw (getD-drop from halves i 0) at (copy-turn append-long (b .fits) p lt)
+
+-- ---- a record is put together where it lies
+
+-- several cells of what was pasted are set where they lie
+paste-behind : (d : List ℕ) (at : ℕ) (s : List ℕ) (n a : ℕ) (t : List ℕ) (m : ℕ) → at + n ≤ length d → n ≤ length s → a + m ≤ n → m ≤ length t
+    → paste (paste d at s n) (at + a) t m ≡ paste d at (paste s a t m) n
+paste-behind d at s n a t zero hd hs ha ht = sym (paste-zero (paste d at s n) (at + a) t) ∙ ap (λ (r : List ℕ). paste d at r n) (paste-zero s a t)
+paste-behind d at s n a t (suc m) hd hs ha ht =
+    let long : length (paste d at s n) ≡ length d = length-paste d at s n hd hs in
+    let short : length (paste s a t m) ≡ length s = length-paste s a t m (omega arith) (omega arith) in
+    sym (paste-suc (paste d at s n) (at + a) t m 0 (omega (arith, long)) (omega arith))
+    ∙ ap (λ (r : List ℕ). set r (at + a + m) (getD t m 0)) (paste-behind d at s n a t m hd hs (omega arith) (omega arith))
+    ∙ ap (λ (i : ℕ). set (paste d at (paste s a t m) n) i (getD t m 0)) (add-assoc at a m)
+    ∙ paste-set d at (paste s a t m) n (a + m) (getD t m 0) (omega arith) (omega (arith, short)) (omega arith)
+    ∙ ap (λ (r : List ℕ). paste d at r n) (paste-suc s a t m 0 (omega arith) (omega arith))
+
+-- so many cells from one on are so many
+part-long : (cells : List ℕ) (from count : ℕ) → from + count ≤ length cells → length (part cells from count) ≡ count
+part-long cells from count h = length-take-le count (drop from cells) (rw length-drop (omega arith))
+
+-- the chain's cells, those of the half chain behind them, and the hops
+put-record : (out : List ℕ) (at : ℕ) (chain : List ℕ) (len : ℕ) (halves : List ℕ) (from rest : ℕ) → at + recordSize ≤ length out → length chain ≡ recordSize → from + rest ≤ length halves → len + rest < recordSize
+    → set (paste (paste out at chain recordSize) (at + (len + 1)) (drop from halves) rest) at (len + rest - 1) ≡ paste out at (recordWith chain len (part halves from rest)) recordSize
+put-record out at chain len halves from rest fits long there short =
+    let n : length (part halves from rest) ≡ rest = part-long halves from rest there in
+    let longer : rest ≤ length (drop from halves) = rw length-drop (omega arith) in
+    let whole = paste chain (len + 1) (drop from halves) rest in
+    let size-whole : length whole ≡ recordSize = length-paste chain (len + 1) (drop from halves) rest (omega arith) longer ∙ long in
+    let same : paste chain (len + 1) (part halves from rest) rest ≡ whole = ap (λ (r : List ℕ). take (len + 1) chain ++ r ++ drop (len + 1 + rest) chain) (take-take rest rest (drop from halves) (le-refl rest)) in
+    let built : recordWith chain len (part halves from rest) ≡ set whole 0 (len + rest - 1) = recordWith-paste chain len (part halves from rest) (omega (arith, n)) ∙ rw (n, same) in
+    ap (λ (o : List ℕ). set o at (len + rest - 1)) (paste-behind out at chain recordSize (len + 1) (drop from halves) rest fits (omega arith) (omega arith) longer)
+    ∙ ap (λ (i : ℕ). set (paste out at whole recordSize) i (len + rest - 1)) (sym (add-zero at))
+    ∙ paste-set out at whole recordSize 0 (len + rest - 1) (omega arith) (omega (arith, size-whole)) (omega arith)
+    ∙ ap (λ (r : List ℕ). paste out at r recordSize) (sym built)
+
+module _ {halves out chain : List ℕ} {w : Walk} {from : ℕ} {found : Found} (k : Room halves out chain w from found) where
+  -- no room
+  pub hand-full : w .room ≤ found .count → Handed halves out out chain w from found (record { count = found .count; more = 1 })
+  hand-full h = record { right = rw (eq-eqb (found .more) 0 (k .none), le-ltb (found .count) (w .room) h) }
+
+  -- only counted
+  pub hand-count : found .count < w .room → w .writes ≡ 0 → Handed halves out out chain w from found (record { count = found .count + 1; more = 0 })
+  hand-count h z = record { right = rw (eq-eqb (found .more) 0 (k .none), lt-ltb (found .count) (w .room) h, eq-eqb (w .writes) 0 z) }
+
+  pub hand-fits : found .count < w .room → found .count * recordSize + recordSize ≤ length out
+  hand-fits h = omega (arith, k .room)
+
+  pub hand-behind : {out′ : List ℕ} → found .count < w .room → out′ ≡ paste out (found .count * recordSize) chain recordSize → Behind out′ (found .count * recordSize + (w .len + 1)) halves from (w .rest)
+  hand-behind {out′} h e =
+      let long : length out′ ≡ length out = ap length e ∙ length-paste out (found .count * recordSize) chain recordSize (hand-fits h) (omega (arith, k .long)) in
+      record { fits = omega (arith, long, hand-fits h, k .short); there = k .there }
+
+  -- written
+  pub hand-put : {out′ out″ : List ℕ} → found .count < w .room → (w .writes ≡ 0 → ⊥) → out′ ≡ paste out (found .count * recordSize) chain recordSize
+      → out″ ≡ paste out′ (found .count * recordSize + (w .len + 1)) (drop from halves) (w .rest)
+      → Handed halves out (set out″ (found .count * recordSize) (w .len + w .rest - 1)) chain w from found (record { count = found .count + 1; more = 0 })
+  hand-put h n e f = record {
+    right = rw (eq-eqb (found .more) 0 (k .none), lt-ltb (found .count) (w .room) h, ne-eqb (w .writes) 0 n, f, e, put-record out (found .count * recordSize) chain (w .len) halves from (w .rest) (hand-fits h) (k .long) (k .there) (k .short));
+  }
