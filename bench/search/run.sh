@@ -6,15 +6,16 @@ here=$(cd "$(dirname "$0")" && pwd)
 root=$(cd "$here/../.." && pwd)
 copy=$root/target/bench/search
 mkdir -p "$copy/crates/bench_export/src"
-for crate in ways compact search; do
+for crate in ways compact pages search; do
     rm -rf "$copy/crates/$crate"
     cp -r "$root/crates/$crate" "$copy/crates/$crate"
 done
 cat >"$copy/crates.txt" <<'END'
 ways:
 compact: ways
-search: ways compact
-bench_export: search compact ways
+pages: ways
+search: ways compact pages
+bench_export: search pages compact ways
 END
 cat >"$copy/crates/bench_export/src/lib.rt" <<'END'
 // The face of the search for C++, for the benchmark alone.
