@@ -1,4 +1,4 @@
--- The three demands, proved.
+-- The three demands, proved; the fewest hops, and what is told at the C door.
 use mathlib.Core.Path.{_≡_}
 use mathlib.Core.List.{List}
 use Prim.Native.Nat.{ℕ}
@@ -6,11 +6,13 @@ use Rattle.linkfile.specs.Verdict.{sound}
 use Rattle.question.specs.declared.Question.{Question}
 use Rattle.question.specs.Asked.{askedFault}
 use Rattle.demands.specs.Demands.{DemandOne, DemandTwo, DemandThree, FewestAsSaid}
+use Rattle.demands.specs.Door.{AtTheDoor}
 use Rattle.demands.proofs.OneResult.{one-result}
 use Rattle.demands.proofs.Ending.{every-ends, refusal-leaves}
 use Rattle.demands.proofs.Paths as paths
 use Rattle.demands.proofs.Laid as laid
 use Rattle.demands.proofs.Fewest as fewest
+use Rattle.demands.proofs.Door as door
 
 -- whatever came in
 pub demand-one : DemandOne
@@ -25,3 +27,6 @@ demand-three = laid.demand-three
 
 pub fewest-as-said : FewestAsSaid
 fewest-as-said = fewest.fewest-as-said
+
+pub at-the-door : AtTheDoor
+at-the-door = door.at-the-door

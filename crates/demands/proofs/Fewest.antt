@@ -3,8 +3,6 @@ use mathlib.Core.Path.{_≡_, refl, sym, _∙_}
 use mathlib.Core.List.{List, [], _∷_}
 use Prim.Native.Nat.{ℕ, _≤_}
 use native.Mathlib.Omega.{arith}
-use native.Mathlib.Decide.{decLe}
-use lib.ListN.{length}
 use Rattle.linkfile.specs.Format.{personCount}
 use Rattle.linkfile.specs.Verdict.{Fault, sound, fault, firstOf}
 use Rattle.linkfile.specs.Checked.{fileFault}
@@ -31,7 +29,7 @@ module _ (file : List ℕ) (q : Question) (p : ℕ) where
   least : (w : List ℕ) → WayFrom file q p w → hops w ≤ q .hops → fewest (next file q) (q .to) (q .hops) p ≤ hops w
   least w way few = in-fewest (next file q) (q .to) (q .hops) few (way-reach w way)
 
-  fewest-from : FewestFrom file q p (fewest (next file q) (q .to) (q .hops) p)
+  pub fewest-from : FewestFrom file q p (fewest (next file q) (q .to) (q .hops) p)
   fewest-from =
       let up-to = fewest-up-to (next file q) (q .to) (q .hops) p in
       record {

@@ -4,4 +4,5 @@ pub mod Ending
 pub mod Paths
 pub mod Laid
 pub mod Fewest
+pub mod Door
 pub mod Demands

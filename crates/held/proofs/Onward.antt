@@ -16,7 +16,7 @@ use Rattle.ways.specs.Sizes.{recordSize}
 use Rattle.ways.proofs.Portions.{lastOr-in, ended-iff}
 use Rattle.question.specs.declared.Question.{Question}
 use Rattle.question.specs.Asked.{askedFault}
-use Rattle.portion.specs.Listing.{Start, fresh, bookmarked, startsAfter, startFault, listingFor, portionFault, portionFor}
+use Rattle.portion.specs.Listing.{Start, bookmarked, startsAfter, startFault, listingFor, portionFault, portionFor}
 use Rattle.portion.specs.Answers.{Answer, listed, refused, answerSaid}
 use Rattle.portion.specs.EndToEnd as portions
 use Rattle.portion.specs.EndToEnd.{Call, countOf, startBehind, LaidEndToEnd, Resumed}

@@ -10,7 +10,7 @@ use Rattle.linkfile.specs.Verdict.{sound}
 use Rattle.linkfile.proofs.Linked.{unless-none}
 use Rattle.ways.specs.Graph.{_∈_}
 use Rattle.ways.specs.Portions.{after, lastOr}
-use Rattle.ways.specs.Records.{chainOf, cellsOf, written, roomOf, isRecordIn}
+use Rattle.ways.specs.Records.{chainOf, cellsOf, written, isRecordIn}
 use Rattle.ways.specs.Sizes.{recordSize}
 use Rattle.ways.proofs.Portions.{after-portion, ended-iff}
 use Rattle.ways.proofs.After.{after-part}
@@ -19,7 +19,7 @@ use Rattle.question.specs.declared.Question.{Question}
 use Rattle.question.specs.Asked.{askedFault}
 use Rattle.portion.specs.Listing.{listingFor, Start, fresh, bookmarked, startsAfter, startFault, portionFault, portionFor, endedFor}
 use Rattle.portion.specs.Answers.{Answer, listed, answerSaid, Portioned}
-use Rattle.portion.specs.EndToEnd.{Call, countOf, saysEnded, startBehind, Run, done, call, allWrote, allRoom, roomIn, Brings, EndsRight, Laid, LaidEndToEnd, Resumed}
+use Rattle.portion.specs.EndToEnd.{Call, countOf, saysEnded, startBehind, Run, done, call, allRoom, roomIn, Laid, LaidEndToEnd, Resumed}
 use Rattle.portion.specs.declared.Answer as code
 use Rattle.portion.proofs.Known.{portion-in, rises, fits, fresh-all, passes, last-kept}
 
