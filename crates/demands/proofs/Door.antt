@@ -77,9 +77,9 @@ unfolding checked
 kin-check file {answer} is =
     tells (fileFault file) 1 9 (omega arith) (numbered-between 9 (fileFault file) (file-numbered file))
     (λ e.
-        let fit = passed-fits (sound-rules file e) in
-        let told : answer ≡ personCount file + linkCount file * 2 ^ 16 + feedCount file * 2 ^ 32 = is ∙ rw e in
-        (omega (arith, fit, told), rw told (counts-apart (personCount file) (linkCount file) (feedCount file) (omega (arith, fit)) (omega (arith, fit)))))
+    let fit = passed-fits (sound-rules file e) in
+    let told : answer ≡ personCount file + linkCount file * 2 ^ 16 + feedCount file * 2 ^ 32 = is ∙ rw e in
+    (omega (arith, fit, told), rw told (counts-apart (personCount file) (linkCount file) (feedCount file) (omega (arith, fit)) (omega (arith, fit)))))
     (λ number place e. (is ∙ rw e, tt))
 
 -- a row view is a part of a file that has passed, or empty
@@ -108,9 +108,9 @@ kin-fewest file q person {answer} is =
     let first = firstOf (fileFault file) (personFault (personCount file) q person) in
     tells first 1 15 (omega arith) (numbered-between 15 first (person-numbered file q person))
     (λ e.
-        let proper = person-proper (personCount file) q person (first-both (fileFault file) (personFault (personCount file) q person) e .1) .0 in
-        let told : answer ≡ fewest (next file q) (q .to) (q .hops) person = is ∙ rw e in
-        (omega (arith, told, fewest-cap (next file q) (q .to) (q .hops) person, proper .most), rw told (fewest-from file q person)))
+    let proper = person-proper (personCount file) q person (first-both (fileFault file) (personFault (personCount file) q person) e .1) .0 in
+    let told : answer ≡ fewest (next file q) (q .to) (q .hops) person = is ∙ rw e in
+    (omega (arith, told, fewest-cap (next file q) (q .to) (q .hops) person, proper .most), rw told (fewest-from file q person)))
     (λ number place e. (is ∙ rw e, tt))
 
 -- portion, held listing and join are told alike
@@ -119,10 +119,10 @@ listing-tells : (first : Fault) (last count : ℕ) (ended : Bool) {said : Answer
 listing-tells first last count ended {said} {answer} few numbered is small told unchanged =
     tells first 1 last few (numbered-between last first numbered)
     (λ e.
-        let listing : said ≡ listed count ended = is ∙ rw e in
-        let number : answer ≡ count + endedNumber ended * 2 ^ 62 = told ∙ rw listing in
-        let fits : count < 2 ^ 62 = rw listing at small in
-        (omega (arith, number, fits, ended-few ended), rw number (listed-apart count ended fits)))
+    let listing : said ≡ listed count ended = is ∙ rw e in
+    let number : answer ≡ count + endedNumber ended * 2 ^ 62 = told ∙ rw listing in
+    let fits : count < 2 ^ 62 = rw listing at small in
+    (omega (arith, number, fits, ended-few ended), rw number (listed-apart count ended fits)))
     (λ number place e. (told ∙ rw (is, e), unchanged number place e))
 
 portion-tells : {file : List ℕ} {q : Question} {start : Start} {out out′ : List ℕ} {answer : code.Answer} {number : ℕ} {Unchanged : Type 0} → Portioned file q start out out′ answer → Small (answerSaid answer) → number ≡ listedNumber (answerSaid answer)
