@@ -146,7 +146,7 @@ class Writing(unittest.TestCase):
 class Stack(unittest.TestCase):
     def test_a_stack_too_small(self):
         with connection(len(INPUT)) as near:
-            self.assertEqual(asked(near, preexec_fn=limit(resource.RLIMIT_STACK, 200 << 10)), (b"", -signal.SIGSEGV))
+            self.assertEqual(asked(near, preexec_fn=limit(resource.RLIMIT_STACK, 200 << 10), env={}), (b"", -signal.SIGSEGV))
 
 
 if __name__ == "__main__":
