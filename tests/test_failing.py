@@ -133,14 +133,18 @@ class Writing(unittest.TestCase):
         self.assertEqual(self.cut(len(LISTING)), WHOLE)
 
     def test_the_command_of_the_page_knows_a_whole_listing(self):
-        (command,) = re.findall(r"^    (target/bin/chains .*)$", (ROOT / "docs" / "PROGRAM.md").read_text(), flags=re.M)
-        whole = re.search(r"awk '.*'$", command).group()
+        run, look = re.findall(r"^    (.*target/listing)$", (ROOT / "docs" / "PROGRAM.md").read_text(), flags=re.M)
+
+        def whole(listing):
+            (ROOT / "target" / "listing").write_bytes(listing)
+            return subprocess.run(look, shell=True, cwd=ROOT).returncode
+
         for listing in (LISTING, LISTING[:-1], b"end 0\n", b"1: 0 1\n" * 12 + b"end 12\n"):
-            self.assertEqual(subprocess.run(whole, shell=True, input=listing).returncode, 0)
+            self.assertEqual(whole(listing), 0, listing)
         broken = [LISTING[:size] for size in range(len(LISTING) - 1)]
         for listing in (*broken, b"1: 0 1\n" * 12 + b"end 1", b"refused 19 at 0\n"):
-            self.assertEqual(subprocess.run(whole, shell=True, input=listing).returncode, 1, listing)
-        subprocess.run(command, shell=True, cwd=ROOT, check=True)
+            self.assertEqual(whole(listing), 1, listing)
+        self.assertEqual(subprocess.run(f"{run} && {look}", shell=True, cwd=ROOT).returncode, 0)
 
 
 class Stack(unittest.TestCase):
