@@ -25,7 +25,9 @@ def refusal(number):
 
 def broken_off(length):
     """What is answered to an input that ends behind so many of its bytes: the question has 28, the file's header 32."""
-    return refusal(19 if length < 28 else 1 if length < 28 + 32 else 3) if length < len(INPUT) else WHOLE
+    if length == len(INPUT):
+        return WHOLE
+    return refusal(19 if length < 28 else 1 if length < 28 + 32 else 3)
 
 
 def asked(stdin, **how):
