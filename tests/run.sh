@@ -1,7 +1,7 @@
 #!/usr/bin/env bash
-# All tests over target/staticlib/liboutside.a and target/bin/chains, which have to stand: the independent Rust tests, the bindings for
-# Rust and Python, the header for C, and the example of each. Shows what every suite shows; the last line is the sum of their
-# results, "N passed, M failed". Ends non-zero if anything failed.
+# All tests over target/staticlib/liboutside.a and target/bin/chains, which have to stand: the independent Rust tests, the pages, reads and
+# writes that fail, the bindings for Rust and Python, the header for C, and the example of each. Shows what every suite shows; the last
+# line is the sum of their results, "N passed, M failed". Ends non-zero if anything failed.
 set -u
 cd "$(dirname "${BASH_SOURCE[0]}")/.." || exit 1
 
@@ -85,6 +85,8 @@ calls_every_function() {
 }
 
 cargo_tests tests
+python_tests tests/test_pages.py
+python_tests tests/test_failing.py
 
 cargo_tests bindings/rust
 example "Rust example" cargo run --quiet --release --offline --manifest-path bindings/rust/Cargo.toml --example ask
