@@ -61,11 +61,17 @@ lists_six_persons() {
   "$@" < examples/six_persons.klf > "$work/printed" && diff crates/chains/stdout "$work/printed"
 }
 
-refuses_nothing_at_all() {
-  ! "$@" < /dev/null > "$work/printed" 2>&1 && grep '^refused 1 at 0' "$work/printed"
+# Every refusal as docs/REFUSALS.md has it, one a line: the number, and the words. What it says of number 0 stands behind the table.
+refusal_words() {
+  sed -n 's/^> /0 /p' docs/REFUSALS.md
+  sed -n 's/^| \([0-9]*\) | \([^|]*\) |.*/\1 \2/p' docs/REFUSALS.md
 }
 
-# Every example lists the six-person file as the program does, and tells the refusal of an empty file.
+refuses_nothing_at_all() {
+  ! "$@" < /dev/null > "$work/printed" 2>&1 && grep -Fx "$(refusal_words | sed -n 's/^1 /refused 1 at 0: /p')" "$work/printed"
+}
+
+# Every example lists the six-person file as the program does, and tells the refusal of an empty file with its words.
 example() {
   local words=$1
   shift
@@ -84,6 +90,14 @@ calls_every_function() {
   compile calls "$@" && "$work/calls" < examples/six_persons.klf
 }
 
+threads_are_told_the_same() {
+  compile threads cc -std=c99 -D_POSIX_C_SOURCE=200809L -pthread bindings/c/test_threads.c && "$work/threads"
+}
+
+has_the_document_s_words() {
+  compile words cc -std=c99 bindings/c/refusal_words.c && "$work/words" > "$work/printed" && refusal_words | diff - "$work/printed"
+}
+
 cargo_tests tests
 
 cargo_tests bindings/rust
@@ -95,6 +109,8 @@ example "Python example" python3 bindings/python/ask.py
 
 holds "every function from C" calls_every_function cc -std=c99 bindings/c/test_kin.c
 holds "every function from C++" calls_every_function c++ -std=c++11 -x c++ bindings/c/test_kin.c
+holds "threads from C" threads_are_told_the_same
+holds "refusals in the header" has_the_document_s_words
 holds "C example, built" compile ask cc -std=c99 examples/ask.c
 example "C example" "$work/ask"
 
