@@ -98,10 +98,27 @@ has_the_document_s_words() {
   compile words cc -std=c99 bindings/c/refusal_words.c && "$work/words" > "$work/printed" && refusal_words | diff - "$work/printed"
 }
 
+# The Rust package by itself, as where its archive lies under another name in another place.
+takes_rust_away() {
+  mkdir "$work/kin" && cp -r bindings/rust/{Cargo.toml,Cargo.lock,build.rs,src,examples} "$work/kin" &&
+    cp target/staticlib/liboutside.a "$work/proved.a"
+}
+
+ask_away() {
+  KIN_ARCHIVE=$1 cargo run --quiet --release --offline --manifest-path "$work/kin/Cargo.toml" --example ask
+}
+
+names_the_missing_archive() {
+  ! ask_away "$work/nothing.a" > "$work/printed" 2>&1 && grep -F "$work/nothing.a is missing: run" "$work/printed"
+}
+
 cargo_tests tests
 
 cargo_tests bindings/rust
 example "Rust example" cargo run --quiet --release --offline --manifest-path bindings/rust/Cargo.toml --example ask
+holds "Rust package, taken away" takes_rust_away
+example "Rust example, archive named" ask_away "$work/proved.a"
+holds "Rust package, archive missing" names_the_missing_archive
 
 holds "shared library" bash bindings/python/build.sh
 python_tests bindings/python/test_kin.py
