@@ -112,6 +112,11 @@ names_the_missing_archive() {
   ! ask_away "$work/nothing.a" > "$work/printed" 2>&1 && grep -F "$work/nothing.a is missing: run" "$work/printed"
 }
 
+# Into an environment of its own, without a network.
+installs_the_python_package() {
+  python3 -m venv "$work/python" && "$work/python/bin/pip" install --quiet --no-index ./bindings/python
+}
+
 cargo_tests tests
 
 cargo_tests bindings/rust
@@ -122,7 +127,11 @@ holds "Rust package, archive missing" names_the_missing_archive
 
 holds "shared library" bash bindings/python/build.sh
 python_tests bindings/python/test_kin.py
+python_tests bindings/python/test_packing.py
 example "Python example" python3 bindings/python/ask.py
+holds "Python package, installed" installs_the_python_package
+# -I keeps the folder of the example out of sight, and with it the package that lies there.
+example "Python example, package installed" "$work/python/bin/python" -I bindings/python/ask.py
 
 holds "every function from C" calls_every_function cc -std=c99 bindings/c/test_kin.c
 holds "every function from C++" calls_every_function c++ -std=c++11 -x c++ bindings/c/test_kin.c
