@@ -98,18 +98,24 @@ has_the_document_s_words() {
   compile words cc -std=c99 bindings/c/refusal_words.c && "$work/words" > "$work/printed" && refusal_words | diff - "$work/printed"
 }
 
-# The Rust package by itself, as where its archive lies under another name in another place.
+# The Rust package by itself, and the archive under another name, where the package finds it only if it is told.
 takes_rust_away() {
-  mkdir "$work/kin" && cp -r bindings/rust/{Cargo.toml,Cargo.lock,build.rs,src,examples} "$work/kin" &&
+  mkdir "$work/rust" && cp -r bindings/rust/{Cargo.toml,Cargo.lock,build.rs,src,examples} "$work/rust" &&
     cp target/staticlib/liboutside.a "$work/proved.a"
 }
 
-ask_away() {
-  KIN_ARCHIVE=$1 cargo run --quiet --release --offline --manifest-path "$work/kin/Cargo.toml" --example ask
+rust_example() {
+  cargo run --quiet --release --offline --manifest-path "$1/Cargo.toml" --example ask
+}
+
+with_archive() {
+  local archive=$1
+  shift
+  KIN_ARCHIVE=$archive "$@"
 }
 
 names_the_missing_archive() {
-  ! ask_away "$work/nothing.a" > "$work/printed" 2>&1 && grep -F "$work/nothing.a is missing: run" "$work/printed"
+  ! with_archive "$work/nothing.a" "$@" > "$work/printed" 2>&1 && grep -F "$work/nothing.a is missing: run" "$work/printed"
 }
 
 # Into an environment of its own, without a network.
@@ -120,12 +126,13 @@ installs_the_python_package() {
 cargo_tests tests
 
 cargo_tests bindings/rust
-example "Rust example" cargo run --quiet --release --offline --manifest-path bindings/rust/Cargo.toml --example ask
+example "Rust example" rust_example bindings/rust
 holds "Rust package, taken away" takes_rust_away
-example "Rust example, archive named" ask_away "$work/proved.a"
-holds "Rust package, archive missing" names_the_missing_archive
+example "Rust example, archive named" with_archive "$work/proved.a" rust_example "$work/rust"
+holds "Rust package, archive missing" names_the_missing_archive rust_example "$work/rust"
 
 holds "shared library" bash bindings/python/build.sh
+holds "shared library, archive missing" names_the_missing_archive bash bindings/python/build.sh
 python_tests bindings/python/test_kin.py
 python_tests bindings/python/test_packing.py
 example "Python example" python3 bindings/python/ask.py
