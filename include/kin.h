@@ -25,8 +25,8 @@
  * should have at least 128 KB of it: the join takes some 62 KB, also where it refuses at once (docs/MEASUREMENTS.md has the figures).
  *
  * Threads. The library has no state of its own: any number of threads may call at once, each with an output, working cells and a held
- * listing of its own. Files and bookmarks are only read, and the same one may be lent to all. Who lends the same output, working cells
- * or held listing to two threads at once has a data race.
+ * listing of its own. Files and bookmarks are only read; the same one may be lent to all, if nobody changes it meanwhile. Who lends
+ * the same output, working cells or held listing to two threads at once has a data race.
  *
  * Version. The first number rises when a program that used the version before has to be changed or an answer changes, the second when
  * something is added, the third otherwise.

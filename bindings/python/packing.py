@@ -1,8 +1,4 @@
-"""Packs the folder kin for pip, into a wheel: an archive of the package with three pages about it.
-
-It is packed by hand because the package carries a library, so that it suits one kind of machine but any Python 3, which is longer to say
-to a general packer than to do; and because a general packer would have to be fetched.
-"""
+"""Packs the folder kin for pip, into a wheel: an archive of the package with three pages about it. docs/DECISIONS.md says why."""
 
 from __future__ import annotations
 

@@ -307,6 +307,8 @@ class OtherArguments(Case):
             self.assertRaises(TypeError, kin.check, file)
         self.assertRaises(TypeError, kin.fewest_hops, SIX_PERSONS, Q, 1.5)
 
+
+class Package(Case):
     def test_a_library_that_is_not_there(self):
         elsewhere = {**os.environ, "KIN_LIBRARY": "/nowhere/libkin.so"}
         command = [sys.executable, "-c", "import kin"]
