@@ -1,5 +1,5 @@
-//! Links the proved static library. `rt staticlib outside` builds it beforehand; it is never built from here. The environment variable
-//! `KIN_ARCHIVE` names it, by its whole path, if it lies elsewhere.
+//! Links the proved static library. `rt staticlib outside` builds it beforehand; it is never built from here. The environment
+//! variable `KIN_ARCHIVE` names it, by its whole path, if it lies elsewhere.
 
 use std::env;
 use std::path::{Path, PathBuf};
