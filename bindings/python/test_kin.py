@@ -197,6 +197,14 @@ class Shown(Case):
         held.move_on(SIX_PERSONS, 2)
         self.assertEqual(repr(held), f"HeldListing({asked}, after=(0, 2, 1, 3, 5))")
 
+    def test_chains_show_how_far_they_have_come(self):
+        to_come = kin.chains(SIX_PERSONS, Q)
+        self.assertEqual(repr(to_come), f"Chains({Q}, after=None)")
+        self.assertEqual((next(to_come), to_come.last), (FIRST, FIRST))
+        self.assertEqual(repr(to_come), f"Chains({Q}, after=(0, 1, 3, 5))")
+        self.assertEqual(list(kin.chains(SIX_PERSONS, Q, after=to_come.last)), [SECOND, THIRD])
+        self.assertEqual((list(to_come), to_come.last), ([SECOND, THIRD], THIRD))
+
     def test_cells_that_make_no_sense(self):
         for cells in ([4_000_000_000] * 18, [3] * 18, [0] * 18):
             held = kin.HeldListing.from_cells(cells)
@@ -233,6 +241,11 @@ class Refusals(Case):
                 self.assert_refused(17, 0, lambda: kin.portion(SIX_PERSONS, Q, 2, bookmark))
                 self.assert_refused(17, 0, lambda: listed(Q, after=bookmark))
         self.assert_refused(17, 0, lambda: kin.portion(SIX_PERSONS, Q._replace(hops=3), 2, SECOND))
+
+    def test_a_refusal_comes_once_and_with_the_first_chain(self):
+        refused = kin.chains(b"", Q)
+        self.assert_refused(1, 0, lambda: next(refused))
+        self.assertEqual((list(refused), refused.last), ([], None))
 
     def test_no_room(self):
         self.assert_refused(16, 0, lambda: kin.portion(SIX_PERSONS, Q, 0))

@@ -25,7 +25,7 @@ The package carries the library, libkin.so. The environment variable KIN_LIBRARY
 
 from ._files import Counts, Link, check, links_in, row_view
 from ._library import Bytes
-from ._listings import ROOM, WORKING_ROOM, Chain, HeldListing, Joined, Portion, chains, fewest_hops, join, portion
+from ._listings import ROOM, WORKING_ROOM, Chain, Chains, HeldListing, Joined, Portion, chains, fewest_hops, join, portion
 from ._question import LAST_DAY, Classes, DateMeaning, Day, Question
 from ._refused import MEANINGS, Refused
 from ._version import __version__
@@ -37,6 +37,7 @@ __all__ = [
     "WORKING_ROOM",
     "Bytes",
     "Chain",
+    "Chains",
     "Classes",
     "Counts",
     "DateMeaning",
@@ -58,5 +59,5 @@ __all__ = [
 ]
 
 # In tracebacks and help they are shown by the name they are had by: kin.Refused, wherever it stands.
-for _had in (Classes, Counts, DateMeaning, HeldListing, Joined, Link, Portion, Question, Refused):
+for _had in (Chains, Classes, Counts, DateMeaning, HeldListing, Joined, Link, Portion, Question, Refused):
     _had.__module__ = __name__

@@ -88,6 +88,22 @@ class HeldListing:
         return _portion(answer, output)
 
 
+class Chains(Iterator[Chain]):
+    """The chains of a question still to come, one after another. The last one handed out is a bookmark, to go on after it later."""
+
+    def __init__(self, file: Bytes, question: Question, room: int, after: Sequence[int] | None) -> None:
+        self.question = question
+        self.last = after
+        self._to_come = _onward(unchanging(file), HeldListing(question, after), room)
+
+    def __repr__(self) -> str:
+        return f"Chains({self.question}, after={self.last})"
+
+    def __next__(self) -> Chain:
+        self.last = chain = next(self._to_come)
+        return chain
+
+
 def fewest_hops(file: Bytes, question: Question, person: int) -> int | None:
     """The fewest hops from a person to the question's To; None if they are more than the question's hops. Refusals 1 to 15."""
     fewest = not_refused(library.kin_fewest(*slice_of(unchanging(file)), *numbers_of(question), number(person)))
@@ -104,17 +120,12 @@ def portion(file: Bytes, question: Question, room: int = ROOM, after: Sequence[i
     return _portion(answer, output)
 
 
-def chains(file: Bytes, question: Question, room: int = ROOM, after: Sequence[int] | None = None) -> Iterator[Chain]:
+def chains(file: Bytes, question: Question, room: int = ROOM, after: Sequence[int] | None = None) -> Chains:
     """All chains, or all after a bookmark, in dictionary order. A refusal is raised when the first chain is asked for.
 
-    They are fetched by moving a held listing on, so many chains a portion; the room shows in the time it takes only.
+    They are fetched so many a portion; the room shows in the time it takes only.
     """
-    whole = unchanging(file)
-    held = HeldListing(question, after)
-    ended = False
-    while not ended:
-        found, ended = held.move_on(whole, room)
-        yield from found
+    return Chains(file, question, room, after)
 
 
 def join(file: Bytes, question: Question, room: int = ROOM, working_room: int = WORKING_ROOM) -> Joined:
@@ -127,6 +138,14 @@ def join(file: Bytes, question: Question, room: int = ROOM, working_room: int = 
     listed = _portion(answer, output)
     # The library doesn't say how many half chains there are, but leaves the cells behind them as they came.
     return Joined(listed, list(_chains_in(working, working_room)))
+
+
+def _onward(file: bytes, held: HeldListing, room: int) -> Iterator[Chain]:
+    """The chains still to come of a held listing, which is moved on portion by portion."""
+    ended = False
+    while not ended:
+        found, ended = held.move_on(file, room)
+        yield from found
 
 
 def _portion(answer: int, output: Cells) -> Portion:
