@@ -112,6 +112,21 @@ static void listing(const std::string &name, const Links &links, uint32_t hops, 
     must_agree(n == m && n == s && w == v && x == y && n & ENDED, name);
 }
 
+// With room for all half chains but one they are counted, all but the last, and none is written.
+static void counting(const std::string &name, const Links &links, uint32_t hops, size_t halves, size_t chains) {
+    Bytes file = file_of(links);
+    question q = asked(0, uint32_t(links.size() - 1), hops);
+    Cells w(halves * RECORD, 7), x(chains * RECORD);
+    uint64_t n = our_join(file, q, w, x), refusal = 0;
+    size_t written = 0;
+    while (w[written * RECORD] != 7) ++written;
+    Cells less((written - 1) * RECORD);
+    double counted, whole;
+    compare([&] { refusal = our_join(file, q, less, x); }, [&] { n = our_join(file, q, w, x); }, counted, whole);
+    must_agree(kin_refusal_number(refusal) == 18 && n & ENDED, name);
+    tell("Join refused by 18, one record too few, against the join: " + name, "", counted, whole, "");
+}
+
 int main() {
     listing("20 persons all linked, 6 hops", all_linked(20), 6, 8000, 1200000);
     listing("12 persons all linked, 8 hops", all_linked(12), 8, 8000, 800000);
@@ -119,4 +134,6 @@ int main() {
     listing("40 persons, 12 links each, 6 hops", drawn(40, 12, 1), 6, 8000, 200000);
     listing("128 persons, 16 links each, 6 hops", drawn(128, 16, 3), 6, 20000, 400000);
     listing("1,024 persons, 4 links each, 8 hops", drawn(1024, 4, 4), 8, 4000, 10000);
+    counting("128 persons, 16 links each, 6 hops", drawn(128, 16, 3), 6, 20000, 400000);
+    counting("1,024 persons, 4 links each, 8 hops", drawn(1024, 4, 4), 8, 4000, 10000);
 }
