@@ -11,11 +11,14 @@ cd "$(dirname "${BASH_SOURCE[0]}")/.."
 
 out=target/bench
 mkdir -p "$out"
+load() { cut -d ' ' -f 1 /proc/loadavg; }
+before=$(load)
 for part in check graph search portion join; do
   echo "$part" >&2
   bash "bench/$part/run.sh" > "$out/$part.md"
 done
 awk 'NR == FNR || FNR > 2' "$out"/{check,graph,search,portion,join}.md > "$out/parts.md"
+printf '\nLoad of the machine, %s processors: %s before, %s after; 1 of it is the run itself.\n' "$(nproc)" "$before" "$(load)" >> "$out/parts.md"
 bash bench/stack/run.sh > "$out/stack.md"
 cat "$out/parts.md" - "$out/stack.md" <<< ''
 

@@ -1,4 +1,5 @@
-"""Makes the table and the picture of the figures: table.py FOLDER, which has them and gets table.md and benchmarks.svg.
+"""Makes the table and the picture of the figures: table.py FOLDER LOAD. The folder has them and gets
+table.md and benchmarks.svg; LOAD is the last line below the table.
 
 A ratio is our time divided by theirs: above 1 we are slower. Ends with 1, and says so loudly, where two sides do not agree on the
 chains."""
@@ -96,10 +97,11 @@ def spread(cases, side):
 def noise(cases):
     itself, apart = spread(cases, "itself")
     same, same_apart = spread(cases, "pruned")
+    rows = [case.cells["pruned"].ratio for case in cases]
     return (
-        f"Noise of this run, up to five rounds: the plain code against itself gave {itself}, and two rounds of one case were up "
-        f"to {apart} in a hundred apart. Ours against the same pruning gave {same}; two rounds were up to {same_apart} in a hundred "
-        "apart."
+        f"Noise of this run: in single rounds the plain code against itself gave {itself}, two rounds of one case up to {apart} in a "
+        f"hundred apart. Ours against the same pruning gave {same}, up to {same_apart} in a hundred apart; the rows show "
+        f"{min(rows):.2f} to {max(rows):.2f}."
     )
 
 
@@ -109,13 +111,13 @@ def markdown(cases):
     return "\n".join(map(row, rows)) + "\n\n" + noise(cases) + "\n"
 
 
-def main(folder):
+def main(folder, load):
     lines = with_ours(read([folder + "/figures", folder + "/networkx"]))
     by_key = collections.defaultdict(list)
     for line in lines:
         by_key[line.key].append(line)
     cases = [Case(of_key) for of_key in by_key.values()]
-    table = markdown(cases)
+    table = f"{markdown(cases)}{load}\n"
     print("\nour time divided by theirs (ours / theirs), above 1 is slower\n\n" + table)
     wrong = list(disagreements(lines))
     if wrong:
@@ -127,4 +129,4 @@ def main(folder):
     print("all sides agree on the count of chains and on their checksum")
 
 
-main(sys.argv[1])
+main(*sys.argv[1:])
