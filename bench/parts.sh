@@ -18,7 +18,8 @@ for part in check graph search portion join; do
   bash "bench/$part/run.sh" > "$out/$part.md"
 done
 awk 'NR == FNR || FNR > 2' "$out"/{check,graph,search,portion,join}.md > "$out/parts.md"
-printf '\nLoad of the machine, %s processors: %s before, %s after; 1 of it is the run itself.\n' "$(nproc)" "$before" "$(load)" >> "$out/parts.md"
+told="Load of the machine, $(nproc) processors: $before before, $(load) after; 1 of it is the run itself."
+printf '\n%s\n' "$told" >> "$out/parts.md"
 bash bench/stack/run.sh > "$out/stack.md"
 cat "$out/parts.md" - "$out/stack.md" <<< ''
 

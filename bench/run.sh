@@ -48,8 +48,8 @@ for round in 0 1 2 3 4; do
   "$out/beside" target/bin/chains "$out/plain" "$out" "$seconds" "${not_again[@]}" >> "$out/figures"
 done
 python3 -B bench/beside/networkx_side.py "$out/cases" "$seconds" > "$out/networkx"
-load_told="Load of the machine, $(nproc) processors: $before before, $(load) after; 1 of it is the run itself."
-PYTHONPATH=bench/plain python3 -B bench/beside/table.py "$out" "$load_told"
+told="Load of the machine, $(nproc) processors: $before before, $(load) after; 1 of it is the run itself."
+PYTHONPATH=bench/plain python3 -B bench/beside/table.py "$out" "$told"
 
 if [ -n "$write" ]; then
   python3 -B bench/plain/put.py beside < "$out/table.md"
