@@ -1,6 +1,6 @@
 #!/usr/bin/env bash
-# Times the parts of the library, each against the same in plain C or C++, and measures the stack: all rows of the first tables of
-# docs/MEASUREMENTS.md. The static library and target/bin/chains have to stand. Some three minutes, and some more where the search has
+# Times the parts of the library, each against the same in plain C or C++, and measures the stack: the first two tables of
+# docs/MEASUREMENTS.md. The static library and target/bin/chains have to stand. Two to three minutes, and more where the search has
 # to be proved first.
 #
 #   bash bench/parts.sh [--write]

@@ -1,13 +1,13 @@
 #!/usr/bin/env bash
 # Times the library and the program beside other ways to list chains: plain C++ without and with the same pruning, igraph, networkx.
-# One command for everything: builds what is missing, runs all sides on the same graphs in five rounds, compares their chains, prints
-# the table of ratios, and leaves it and a picture under target/bench/beside. Some five minutes on a quiet machine.
+# One command for everything: builds what is missing, runs all sides on the same graphs in five rounds, compares their chains,
+# prints the table of ratios, and leaves it and a picture under target/bench/beside. Four to six minutes.
 #
 #   bash bench/run.sh [--write] [SECONDS]
 #
-# With --write the table also goes to docs/MEASUREMENTS.md and the picture to docs/benchmarks.svg; otherwise no file of the repository
-# is changed. A side is stopped after 10 seconds of processor time, or as many as are named. Ends with an error only where two sides
-# do not agree on the chains.
+# With --write the table also goes to docs/MEASUREMENTS.md and the picture to docs/benchmarks.svg; otherwise no file of the
+# repository is changed. A side is stopped after 10 seconds of processor time, or as many as are named. Ends with an error only where
+# two sides do not agree on the chains.
 set -eu
 cd "$(dirname "${BASH_SOURCE[0]}")/.."
 
@@ -43,7 +43,7 @@ slow() { awk -F '\t' '$4 != "done" || $10 > 1 { print $1 $3 }' "$out/figures"; }
 for round in 0 1 2 3 4; do
   echo "round $((round + 1)) of 5" >&2
   bash bench/plain/linked.sh "$out/plain" "$round" "$out/plain.o"
-  bash bench/plain/linked.sh "$out/beside" "$round" "$out/beside.o" "$out/igraph_side.o" target/staticlib/liboutside.a "${igraph[@]}"
+  bash bench/plain/linked.sh "$out/beside" "$round" "$out"/{beside,igraph_side}.o target/staticlib/liboutside.a "${igraph[@]}"
   mapfile -t not_again < <(slow)
   "$out/beside" target/bin/chains "$out/plain" "$out" "$seconds" "${not_again[@]}" >> "$out/figures"
 done

@@ -99,8 +99,8 @@ def noise(cases):
     same, same_apart = spread(cases, "pruned")
     rows = [case.cells["pruned"].ratio for case in cases]
     return (
-        f"Noise of this run: in single rounds the plain code against itself gave {itself}, two rounds of one case up to {apart} in a "
-        f"hundred apart. Ours against the same pruning gave {same}, up to {same_apart} in a hundred apart; the rows show "
+        f"Noise of this run: in single rounds the plain code against itself gave {itself}, two rounds of one case up to {apart} in "
+        f"a hundred apart. Ours against the same pruning gave {same}, up to {same_apart} in a hundred apart; the rows show "
         f"{min(rows):.2f} to {max(rows):.2f}."
     )
 

@@ -1,5 +1,5 @@
-"""What is shown of several rounds, in every table: the round whose ratio is the median, its two times and its ratio. So the times of a
-row, divided, are its ratio, up to the figures that are left out."""
+"""What is shown of several rounds, in every table: the round whose ratio is the median, its two times and its ratio. So the times
+of a row, divided, are its ratio, up to the figures that are left out."""
 
 import statistics
 

@@ -1,6 +1,6 @@
 #!/usr/bin/env bash
-# Links a program for one round: linked.sh PROGRAM ROUND OBJECTS... . Where code lies changes how fast it is, proved or plain, so each
-# round has 16 bytes more before it.
+# Links a program for one round: linked.sh PROGRAM ROUND OBJECTS... . Where code lies changes how fast it is, proved or plain, so
+# each round has 16 bytes more before it.
 set -eu
 program=$1 round=$2
 shift 2

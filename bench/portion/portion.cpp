@@ -29,7 +29,8 @@ static void against_itself(const std::string &name, const Call &c, size_t room) 
 }
 
 static void whole_listings() {
-    Bytes dense = file_of(all_linked(64)), medium = file_of(random_links(128, 1024, 1)), sparse = file_of(random_links(1024, 4096, 1));
+    Bytes dense = file_of(all_linked(64)), medium = file_of(random_links(128, 1024, 1));
+    Bytes sparse = file_of(random_links(1024, 4096, 1));
     Call five{dense, asked(0, 63, 5), nullptr}, eight{medium, asked(0, 127, 8), nullptr}, few{sparse, asked(0, 1022, 8), nullptr};
     against_itself("64 persons all linked, 5 hops", five, 1000000);
     against_itself("1,024 persons, 4,096 links at random, 8 hops", few, 10000);

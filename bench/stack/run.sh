@@ -1,6 +1,6 @@
 #!/usr/bin/env bash
-# Prints how much stack every exported function takes, answered and refused, and the least limit under which the program `chains` runs.
-# The static library and target/bin/chains have to stand. Never part of pass or fail.
+# Prints how much stack every exported function takes, answered and refused, and the least limit under which the program `chains`
+# runs. The static library and target/bin/chains have to stand. Never part of pass or fail.
 set -eu
 cd "$(dirname "${BASH_SOURCE[0]}")/../.."
 
@@ -20,5 +20,5 @@ least() {
   echo "$limit"
 }
 target/bench/stack.program input > target/bench/stack.input
-echo
-echo "The program \`chains\` runs under a stack limit of $(least target/bench/stack.input) KB; where it refuses, of $(least /dev/null) KB."
+lists=$(least target/bench/stack.input) refuses=$(least /dev/null)
+printf '\nThe program `chains` runs under a stack limit of %s KB; where it refuses, of %s KB.\n' "$lists" "$refuses"

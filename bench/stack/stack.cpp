@@ -95,10 +95,12 @@ static void rows() {
     row({"fewest hops", cell(1, [&] { return fewest(none, eight); }), cell(15, [&] { return fewest(dense, no_days); }),
          answered([&] { return fewest(dense, one); }), answered([&] { return fewest(dense, four); }),
          answered([&] { return fewest(dense, eight); })});
-    row({"portion", cell(1, [&] { return portion(none, eight, nullptr); }), cell(17, [&] { return portion(dense, eight, &NO_CHAIN); }),
+    row({"portion", cell(1, [&] { return portion(none, eight, nullptr); }),
+         cell(17, [&] { return portion(dense, eight, &NO_CHAIN); }),
          answered([&] { return portion(dense, one, nullptr); }), answered([&] { return portion(dense, four, nullptr); }),
          answered([&] { return portion(dense, eight, nullptr); }), answered([&] { return portion(dense, eight, &BOOKMARK); })});
-    row({"held listing", cell(1, [&] { return held(none, eight, nullptr); }), cell(17, [&] { return held(dense, eight, &NO_CHAIN); }),
+    row({"held listing", cell(1, [&] { return held(none, eight, nullptr); }),
+         cell(17, [&] { return held(dense, eight, &NO_CHAIN); }),
          answered([&] { return held(dense, one, nullptr); }), answered([&] { return held(dense, four, nullptr); }),
          answered([&] { return held(dense, eight, nullptr); }), answered([&] { return held(dense, eight, &BOOKMARK); })});
     const size_t half_chains = 1 + 10 + 10 * 9 + 10 * 9 * 8 + 10 * 9 * 8 * 7;
