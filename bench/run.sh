@@ -6,8 +6,8 @@
 #   bash bench/run.sh [--write] [SECONDS]
 #
 # With --write the table also goes to docs/MEASUREMENTS.md and the picture to docs/benchmarks.svg; otherwise no file of the
-# repository is changed. A side is stopped after 10 seconds of processor time, or as many as are named. Ends with an error only where
-# two sides do not agree on the chains.
+# repository is changed. A side is stopped after 10 seconds of processor time, or as many as are named. Ends with an error only
+# where two sides do not agree on the chains.
 set -eu
 cd "$(dirname "${BASH_SOURCE[0]}")/.."
 
