@@ -1,5 +1,6 @@
 """Tests of the binding: the customer's cases on the six-person file, refusals, portions, and a lister of its own on random files."""
 
+import copy
 import datetime
 import itertools
 import os
@@ -302,6 +303,14 @@ class Portions(Case):
         self.assertEqual(again.move_on(SIX_PERSONS), ([], True))
         self.assert_refused(3, 0, lambda: again.move_on(SIX_PERSONS[:-1]))
         self.assertEqual(again.cells, after)
+
+    def test_a_copied_or_pickled_held_listing_moves_on_by_itself(self):
+        held = kin.HeldListing(Q)
+        held.move_on(SIX_PERSONS, 2)
+        for again in (copy.copy(held), copy.deepcopy(held), pickle.loads(pickle.dumps(held))):
+            self.assertEqual(again.cells, held.cells)
+            self.assertEqual(again.move_on(SIX_PERSONS), ([THIRD], True))
+            self.assertEqual(held.last, SECOND)
 
     def test_a_held_listing_of_another_size(self):
         for size in (0, 17, 19):

@@ -66,6 +66,10 @@ class HeldListing:
     def __repr__(self) -> str:
         return f"HeldListing({self.question}, after={self.last})"
 
+    def __reduce__(self) -> tuple[object, ...]:
+        # A copy has cells of its own, and a held listing can be pickled.
+        return HeldListing.from_cells, (self.cells,)
+
     @property
     def cells(self) -> list[int]:
         """What to put away: the seven numbers of the question, started, and the record of the last chain, 18 cells in all."""
@@ -73,7 +77,7 @@ class HeldListing:
 
     @property
     def question(self) -> Question:
-        """The question, which no call changes."""
+        """The question, which no call changes. Its days are numbers, also where dates were given."""
         return question_of(self._cells[:_STARTED])
 
     @property

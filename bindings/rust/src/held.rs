@@ -61,7 +61,7 @@ impl HeldListing {
         Question::from_numbers(std::array::from_fn(|place| self.cells[place]))
     }
 
-    /// The last chain handed over; nothing if the listing isn't started.
+    /// The last chain handed over; nothing if the listing isn't started, or if its cells hold no record.
     pub fn last(&self) -> Option<Chain> {
         if self.cells[STARTED] == 0 {
             return None;

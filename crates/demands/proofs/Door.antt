@@ -1,5 +1,5 @@
 -- The demands at the C door: a refusal is told by 2^63, and what was put into the number is read off it again.
-use mathlib.Core.Path.{_≡_, refl, ap, _∙_}
+use mathlib.Core.Path.{_≡_, refl, sym, ap, subst, _∙_}
 use mathlib.Core.Bool.{Bool, true, false}
 use mathlib.Core.List.{List, [], _∷_}
 use Prim.Native.Nat.{ℕ, _+_, _*_, _-_, _^_, _≤_, _<_}
@@ -17,7 +17,11 @@ use Rattle.linkfile.proofs.Counted.{laid-out-long}
 use Rattle.linkfile.proofs.Passed.{sound-rules, passed-fits}
 use Rattle.linkfile.proofs.Numbered.{file-numbered}
 use Rattle.ways.specs.Fewest.{fewest}
-use Rattle.ways.specs.Records.{cellsOf, written}
+use Rattle.ways.specs.Graph.{_∈_}
+use Rattle.ways.specs.Portions.{lastOr}
+use Rattle.ways.specs.Records.{recordOf, cellsOf, written}
+use Rattle.ways.specs.Sizes.{recordSize}
+use Rattle.ways.proofs.Portions.{lastOr-in}
 use Rattle.ways.proofs.Fewest.{fewest-cap}
 use Rattle.question.specs.declared.Question.{Question}
 use Rattle.question.specs.Admission.{next}
@@ -29,14 +33,17 @@ use Rattle.portion.specs.Listing.{Start, portionFault, portionFor, endedFor}
 use Rattle.portion.specs.Answers.{Answer, listed, refused, answerSaid, answerFor, Portioned}
 use Rattle.portion.specs.declared.Answer as code
 use Rattle.portion.proofs.Numbered.{portion-numbered}
-use Rattle.held.specs.Holding.{startOf}
+use Rattle.portion.proofs.Known.{portion-in, kept}
+use Rattle.portion.proofs.Telling.{sound-asked}
+use Rattle.held.specs.declared.Held.{Held}
+use Rattle.held.specs.Holding.{startOf, MovedOn}
 use Rattle.join.specs.Lists.{chainsFor, joinFault, firstOnes, allFit}
 use Rattle.join.proofs.Numbered.{join-numbered}
 use Rattle.outside.specs.Encoded.{refusalNumber, endedNumber, listedNumber, Small, CheckNumber, RowNumber, FewestNumber, PortionNumber, JoinNumber}
 use Rattle.outside.specs.HeldCells.{heldOf, heldCells, MovedCells, HeldNumber}
 use Rattle.outside.specs.TakenApart.{countIn, personsIn, linksIn, feedsIn}
 use Rattle.outside.proofs.Numbered.{ended-few}
-use Rattle.outside.proofs.HeldCells.{held-kept}
+use Rattle.outside.proofs.HeldCells.{held-kept, movedTo, held-back}
 use Rattle.outside.proofs.TakenApart.{refusal-apart, listed-apart, counts-apart}
 use Rattle.demands.specs.Paths.{FewestFrom}
 use Rattle.demands.specs.Door.{Tells, NothingLent, Listed, sizeFault, heldFault, AtTheDoor}
@@ -142,7 +149,7 @@ kin-join {file} {q} {working} {out = out} j =
     (λ number place e. (j .joins .shelf ∙ rw e, j .joins .cells ∙ rw e))
 
 -- a call on 18 cells
-module _ {file cells cells′ out out′ : List ℕ} {answer : ℕ} (m : MovedCells file cells cells′ out out′ answer) where
+module _ {file cells cells′ out out′ : List ℕ} {answer : ℕ} (whole : length cells ≡ 18) (m : MovedCells file cells cells′ out out′ answer) where
   unmoved : m .held ≡ heldOf cells → cells′ ≡ cells
   unmoved same = m .keeps ∙ ap (heldCells cells) same ∙ held-kept cells
 
@@ -153,6 +160,24 @@ module _ {file cells cells′ out out′ : List ℕ} {answer : ℕ} (m : MovedCe
   moved-tells : Tells (portionFault file (heldOf cells .question) (startOf (heldOf cells)) out) 1 17 answer ((cells′ ≡ cells) × (out′ ≡ out))
       (Listed answer (length (portionFor file (heldOf cells .question) (startOf (heldOf cells)) out)) (endedFor file (heldOf cells .question) (startOf (heldOf cells)) out))
   moved-tells = portion-tells (m .moves .portioned) (m .small) (m .answers) refused-stays
+
+  -- whichever way it went: no chains, or some, of which the last is kept
+  stays-or-moves : (f : Fault) → portionFault file (heldOf cells .question) (startOf (heldOf cells)) out ≡ f → (P : List (List ℕ)) → portionFor file (heldOf cells .question) (startOf (heldOf cells)) out ≡ P → heldOf cells′ ≡ m .held
+  stays-or-moves (fault number place) e P i = let same : m .held ≡ heldOf cells = m .moves .keeps ∙ rw e in ap heldOf (unmoved same) ∙ sym same
+  stays-or-moves sound e [] i = let same : m .held ≡ heldOf cells = m .moves .keeps ∙ rw (e, i) in ap heldOf (unmoved same) ∙ sym same
+  stays-or-moves sound e (c ∷ P) i =
+      let q = heldOf cells .question in
+      let start = startOf (heldOf cells) in
+      let last = recordOf recordSize (lastOr c P) in
+      let inside = portion-in file q start out (subst (λ (l : List (List ℕ)). lastOr c P ∈ l) (sym i) (lastOr-in c P)) in
+      let ten = kept file q (sound-asked file q start out e .0) (lastOr c P) inside .whole in
+      let moved : m .held ≡ movedTo cells last = m .moves .keeps ∙ rw (e, i) in
+      ap heldOf (m .keeps ∙ ap (heldCells cells) moved) ∙ held-back cells last whole ten ∙ sym moved
+
+  moves-on : MovedOn file (heldOf cells) (heldOf cells′) out out′ (m .answer)
+  moves-on =
+      let same = stays-or-moves (portionFault file (heldOf cells .question) (startOf (heldOf cells)) out) refl (portionFor file (heldOf cells .question) (startOf (heldOf cells)) out) refl in
+      subst (λ (h : Held). MovedOn file (heldOf cells) h out out′ (m .answer)) (sym same) (m .moves)
 
   -- so does a portion of no chains
   none-stays : countIn answer ≡ 0 → (cells′ ≡ cells) × (out′ ≡ out)
@@ -182,7 +207,7 @@ module _ {file cells cells′ out out′ : List ℕ} {answer : ℕ} (h : HeldNum
       go : (whole : Bool) → eqb (length cells) 18 ≡ whole
           → Tells (sizeFault whole (portionFault file (heldOf cells .question) (startOf (heldOf cells)) out)) 0 17 answer ((cells′ ≡ cells) × (out′ ≡ out))
           (Listed answer (length (portionFor file (heldOf cells .question) (startOf (heldOf cells)) out)) (endedFor file (heldOf cells .question) (startOf (heldOf cells)) out))
-      go true e = tells-lower (moved-tells (h .moved (eqb-true (length cells) 18 e)))
+      go true e = let whole = eqb-true (length cells) 18 e in tells-lower (moved-tells whole (h .moved whole))
       go false e =
           let w = h .wrongSize (eqb-false (length cells) 18 e) in
           tells (sizeFault false (portionFault file (heldOf cells .question) (startOf (heldOf cells)) out)) 0 17 (omega arith) (omega arith, omega arith, omega arith) (λ i. let z : _≡_ {A = ℕ} 0 1 = cc in absurd (omega arith))
@@ -192,8 +217,11 @@ module _ {file cells cells′ out out′ : List ℕ} {answer : ℕ} (h : HeldNum
   kin-held-stays zero = go (eqb (length cells) 18) refl
     where
       go : (whole : Bool) → eqb (length cells) 18 ≡ whole → (cells′ ≡ cells) × (out′ ≡ out)
-      go true e = none-stays (h .moved (eqb-true (length cells) 18 e)) zero
+      go true e = let whole = eqb-true (length cells) 18 e in none-stays whole (h .moved whole) zero
       go false e = let w = h .wrongSize (eqb-false (length cells) 18 e) in (w .1, w .2)
 
+  kin-held-moves : length cells ≡ 18 → (said : code.Answer) × MovedOn file (heldOf cells) (heldOf cells′) out out′ said × (answer ≡ listedNumber (answerSaid said))
+  kin-held-moves whole = let m = h .moved whole in (m .answer, moves-on whole m, m .answers)
+
 pub at-the-door : AtTheDoor
-at-the-door = record { kinCheck = kin-check; kinRow = kin-row; kinFewest = kin-fewest; kinPortion = kin-portion; kinHeld = kin-held; kinHeldStays = kin-held-stays; kinJoin = kin-join }
+at-the-door = record { kinCheck = kin-check; kinRow = kin-row; kinFewest = kin-fewest; kinPortion = kin-portion; kinHeld = kin-held; kinHeldMoves = kin-held-moves; kinHeldStays = kin-held-stays; kinJoin = kin-join }

@@ -28,7 +28,7 @@ use Rattle.portion.proofs.Known.{rows, rises, fresh-all, passes}
 use Rattle.join.specs.Lists.{halvesFor, chainsFor, halvesFault, joinFault}
 use Rattle.join.specs.Answers.{Joins}
 use Rattle.demands.specs.Paths.{Reached, SimplePath, HalfPath}
-use Rattle.demands.specs.Demands.{Lists, JoinRoute, DemandTwo}
+use Rattle.demands.specs.Demands.{Lists, Fitting, JoinRoute, DemandTwo}
 
 module _ (file : List ℕ) (q : Question) where
   pub reached-linked : (c : List ℕ) → Reached file q c → Linked (next file q) c
@@ -77,11 +77,8 @@ module _ (file : List ℕ) (q : Question) where
         let passing = passes file q asked fresh out refl h in
         record { says = p .answers ∙ rw (passing, fresh-all file q); cells = p .cells ∙ rw (passing, fresh-all file q) }
 
-    join-lists : {working working′ out out′ : List ℕ} {answer : Answer} → recordSize ≤ length out → halvesFault recordSize (length working) (halvesFor file q) ≡ sound
-        → Joins file q working working′ out out′ answer → Lists (chainsFor file q) out out′ answer × (working′ ≡ written recordSize (halvesFor file q) working)
-    join-lists {working} {out = out} h fit j =
-        let passing : joinFault file q working out ≡ sound = rw (asked, le-leb recordSize (length out) h) fit in
-        (record { says = j .answers ∙ rw passing; cells = j .cells ∙ rw passing }, j .shelf ∙ rw passing)
+    joins-on : {working out : List ℕ} → Fitting file q working out → joinFault file q working out ≡ sound
+    joins-on {working} {out} fit = rw (asked, le-leb recordSize (length out) (fit .room)) (fit .shelf)
 
     -- only persons of the file have links
     inside : (p v : ℕ) → v ∈ next file q p → p < personCount file
@@ -105,8 +102,9 @@ module _ (file : List ℕ) (q : Question) where
           shortestFirst = byHops-ordered (next file q) (q .from) (q .to) (rows file q asked) (q .hops);
           halfChains = is-half;
           toAlone = is-half (q .to ∷ []) .1 to-alone;
+          halvesWritten = λ fit j. j .shelf ∙ rw (joins-on fit);
           halvesInOrder = halves-ordered (next file q) (personCount file) (q .from) (q .to) differ inside (q .hops);
-          lists = join-lists;
+          lists = λ fit j. record { says = j .answers ∙ rw (joins-on fit); cells = j .cells ∙ rw (joins-on fit) };
         }
 
     pub demand-two : DemandTwo file q

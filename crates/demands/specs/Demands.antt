@@ -1,5 +1,6 @@
--- The customer's three demands, one statement each, and in it one field for each of his sentences, which stands above it word for word.
--- Fields that no sentence stands above follow from those before them. Definitions only; proofs/Demands proves them.
+-- The customer's three demands, one statement each. Each of his sentences stands word for word above the one field that says it; the first two
+-- of demand 3 say what is given, which is a `Run`. Fields that no sentence stands above say more: what follows, what the operations write, and the
+-- same after bookmarks and of held listings. Definitions only; proofs/Demands proves them.
 use mathlib.Core.Path.{_≡_}
 use mathlib.Core.Logic.{_≢_, _↔_, _⊎_}
 use mathlib.Core.Bool.{true}
@@ -81,6 +82,11 @@ pub record Lists (chains : List (List ℕ)) (out out′ : List ℕ) (answer : An
   pub says : answerSaid answer ≡ listed (length (firstOnes chains out)) (allFit chains out)
   pub cells : out′ ≡ written recordSize (firstOnes chains out) out
 
+-- there is room for a record, and for the half chains
+pub record Fitting (file : List ℕ) (q : Question) (working out : List ℕ) : Type 0 where
+  pub room : recordSize ≤ length out
+  pub shelf : halvesFault recordSize (length working) (halvesFor file q) ≡ sound
+
 -- the join route of a file and a question that pass
 pub record JoinRoute (file : List ℕ) (q : Question) : Type 0 where
   pub same : (c : List ℕ) → c ∈ chainsFor file q ↔ c ∈ listingFor file q
@@ -90,10 +96,11 @@ pub record JoinRoute (file : List ℕ) (q : Question) : Type 0 where
   pub halfChains : (h : List ℕ) → h ∈ halvesFor file q ↔ HalfPath file q h
   pub toAlone : q .to ∷ [] ∈ halvesFor file q
   -- "They are written as records to the working cells, shorter first, then in dictionary order; later cells are unchanged."
+  pub halvesWritten : {working working′ out out′ : List ℕ} {answer : Answer} → Fitting file q working out → Joins file q working working′ out out′ answer → working′ ≡ written recordSize (halvesFor file q) working
+  -- "shorter first, then in dictionary order"
   pub halvesInOrder : Rising Sooner (halvesFor file q)
-  -- where there is room for a record, and for the half chains
-  pub lists : {working working′ out out′ : List ℕ} {answer : Answer} → recordSize ≤ length out → halvesFault recordSize (length working) (halvesFor file q) ≡ sound
-      → Joins file q working working′ out out′ answer → Lists (chainsFor file q) out out′ answer × (working′ ≡ written recordSize (halvesFor file q) working)
+  -- and the chains are what is listed
+  pub lists : {working working′ out out′ : List ℕ} {answer : Answer} → Fitting file q working out → Joins file q working working′ out out′ answer → Lists (chainsFor file q) out out′ answer
 
 -- Demand 2, of a file and a question that pass
 pub record DemandTwo (file : List ℕ) (q : Question) : Type 0 where
@@ -126,7 +133,7 @@ pub record DemandThree (file : List ℕ) (q : Question) : Type 0 where
   pub whole : {calls : List Call} → Run file q fresh calls → SomeEnded calls → allWrote calls ≡ cellsOf recordSize (listingFor file q)
   -- the same after a bookmark that somebody kept: the rest of the listing, from the chain behind it on
   pub resumed : (bookmark : List ℕ) {calls : List Call} → startFault (listingFor file q) (bookmarked bookmark) ≡ sound → Run file q (bookmarked bookmark) calls → Resumed file q bookmark calls
-  -- the same of the calls of one held listing, refused ones among them, whether it was started before or not
+  -- the same of the calls of one held listing, whether it was started before or not; refused ones may stand between them
   pub held : {held held′ : Held} {calls : List Call} → held .question ≡ q → held .started ≡ 0 → HeldRun file held calls held′ → LaidEndToEnd file q calls
   pub heldResumed : {held held′ : Held} {calls : List Call} → held .question ≡ q → held .started ≢ 0 → startFault (listingFor file q) (bookmarked (held .«record»)) ≡ sound → HeldRun file held calls held′
       → Resumed file q (held .«record») calls

@@ -1,6 +1,6 @@
 -- The demands at the C door: what the one number tells that each exported function answers. Definitions only.
--- The promises of the listing functions (outside, specs/) hold the promise of the operation behind them, of the same cells: so demands 2 and 3,
--- which speak of such calls, hold of them as they stand, and count and ended are read off the number.
+-- The promises of `kin_portion` and `kin_join` (outside, specs/) hold the promise of the operation behind them, of the same cells, and so does that of
+-- `kin_held`, by `kinHeldMoves`: so demands 2 and 3, which speak of such calls, hold of theirs, and count and ended are read off the number.
 use mathlib.Core.Path.{_≡_}
 use mathlib.Core.Logic.{_≢_, _↔_}
 use mathlib.Core.Bool.{Bool}
@@ -14,9 +14,11 @@ use Rattle.linkfile.specs.Checked.{fileFault}
 use Rattle.question.specs.declared.Question.{Question}
 use Rattle.question.specs.Asked.{personFault}
 use Rattle.portion.specs.Listing.{Start, portionFault, portionFor, endedFor}
-use Rattle.held.specs.Holding.{startOf}
+use Rattle.portion.specs.Answers.{answerSaid}
+use Rattle.portion.specs.declared.Answer as code
+use Rattle.held.specs.Holding.{startOf, MovedOn}
 use Rattle.join.specs.Lists.{chainsFor, joinFault, firstOnes, allFit}
-use Rattle.outside.specs.Encoded.{CheckNumber, RowNumber, FewestNumber, PortionNumber, JoinNumber}
+use Rattle.outside.specs.Encoded.{listedNumber, CheckNumber, RowNumber, FewestNumber, PortionNumber, JoinNumber}
 use Rattle.outside.specs.HeldCells.{heldOf, HeldNumber}
 use Rattle.outside.specs.TakenApart.{refusalIn, placeIn, countIn, endedIn, personsIn, linksIn, feedsIn}
 use Rattle.demands.specs.Paths.{FewestFrom}
@@ -57,6 +59,9 @@ pub record AtTheDoor : Type 0 where
   pub kinHeld : {file cells cells′ out out′ : List ℕ} {answer : ℕ} → HeldNumber file cells cells′ out out′ answer
       → Tells (heldFault file cells out) 0 17 answer ((cells′ ≡ cells) × (out′ ≡ out))
       (Listed answer (length (portionFor file (heldOf cells .question) (startOf (heldOf cells)) out)) (endedFor file (heldOf cells .question) (startOf (heldOf cells)) out))
+  -- it moves the held listing in its cells on to the one in its cells at exit, so calls one after another are calls of one held listing
+  pub kinHeldMoves : {file cells cells′ out out′ : List ℕ} {answer : ℕ} → HeldNumber file cells cells′ out out′ answer → length cells ≡ 18
+      → (said : code.Answer) × MovedOn file (heldOf cells) (heldOf cells′) out out′ said × (answer ≡ listedNumber (answerSaid said))
   -- "with none, nothing in it changes"
   pub kinHeldStays : {file cells cells′ out out′ : List ℕ} {answer : ℕ} → HeldNumber file cells cells′ out out′ answer → countIn answer ≡ 0 → (cells′ ≡ cells) × (out′ ≡ out)
   pub kinJoin : {file : List ℕ} {q : Question} {working working′ out out′ : List ℕ} {answer : ℕ} → JoinNumber file q working working′ out out′ answer

@@ -26,7 +26,7 @@ unlessRefused sound h = hops h
 unlessRefused (fault number place) h = refused number place
 
 -- "Fewest hops: from any person p to To over admitted links, at most k, else k+1. To itself answers 0." The file's refusals come before
--- the question's, and "fewest hops reports its extra person as 10 with place 2, after From and To and before 11".
+-- the question's. "Fewest hops reports its extra person as 10 with place 2, after From and To and before 11."
 unfoldable pub answered : List ℕ → Question → ℕ → Answer
 answered file q person =
     unlessRefused (firstOf (fileFault file) (personFault (personCount file) q person)) (fewest (next file q) (q .to) (q .hops) person)

@@ -1,5 +1,5 @@
 -- The promise of the held listing. Definitions only.
--- "A question, a started mark and the last record. One call moves the desk's held listing on by a portion and changes it in its own place."
+-- "a question, a started mark and the last record. One call moves the desk's held listing on by a portion and changes it in its own place."
 use mathlib.Core.Path.{_≡_}
 use mathlib.Core.List.{List, [], _∷_}
 use Prim.Native.Nat.{ℕ}

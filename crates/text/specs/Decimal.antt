@@ -1,4 +1,4 @@
--- Numbers as they are printed. "Numbers are decimal." Definitions only.
+-- Numbers as they are printed. "Numbers are decimal" Definitions only.
 use mathlib.Core.Path.{_≡_}
 use mathlib.Core.List.{List, [], _∷_, _++_}
 use mathlib.Core.Bool.{cond}

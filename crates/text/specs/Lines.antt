@@ -1,4 +1,4 @@
--- The lines that the program prints. "Every line ends with one LF." Definitions only.
+-- The lines that the program prints. "every line ends with one LF." Definitions only.
 use mathlib.Core.List.{List, [], _∷_, _++_}
 use Prim.Native.Nat.{ℕ, zero, suc, _+_, _*_, _≤_, _<_}
 use lib.ListN.{length, getD, drop}

@@ -37,7 +37,7 @@ cellsOf size (c ∷ L) = recordOf size c ++ cellsOf size L
 abbrev pub roomOf : ℕ → ℕ → ℕ
 roomOf size cells = cells / size
 
--- "from cell 0 .. Other output cells are unchanged": the cells after the records of L were written to them
+-- "from cell 0"; "Other output cells are unchanged.": the cells after the records of L were written to them
 unfoldable pub written : ℕ → List (List ℕ) → List ℕ → List ℕ
 written size L cells = cellsOf size L ++ drop (length L * size) cells
 
