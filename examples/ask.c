@@ -15,6 +15,10 @@ static void print_chain(const uint32_t *record) {
     printf("\n");
 }
 
+static void print_refusal(uint32_t number, uint32_t place) {
+    printf("refused %" PRIu32 " at %" PRIu32 ": %s\n", number, place, kin_refusal_words(number));
+}
+
 int main(void) {
     static uint8_t file[KIN_LONGEST_FILE + 1];
     size_t length = fread(file, 1, sizeof file, stdin);
@@ -27,7 +31,7 @@ int main(void) {
     do {
         answer = kin_held(held, KIN_HELD_CELLS, file, length, output, ROOM * KIN_RECORD_CELLS);
         if (kin_refused(answer)) {
-            printf("refused %" PRIu32 " at %" PRIu32 "\n", kin_refusal_number(answer), kin_refusal_place(answer));
+            print_refusal(kin_refusal_number(answer), kin_refusal_place(answer));
             return 1;
         }
         for (size_t chain = 0; chain < kin_count(answer); chain++) {

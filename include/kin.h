@@ -18,14 +18,29 @@
  * Held listing. KIN_HELD_CELLS lent cells: the seven numbers of the question, started, the record of the last chain handed over.
  * One that moved on has 1 in its started cell; otherwise that cell stays as it was.
  *
- * Refusal. A refusal is 2^63 + number * 2^32 + place; docs/REFUSALS.md says what each number means. After a refusal every lent cell
- * is as it came.
+ * Refusal. A refusal is 2^63 + number * 2^32 + place. kin_refusal_words says what a number means; docs/REFUSALS.md also says what the
+ * place tells and what to do. After a refusal every lent cell is as it came.
+ *
+ * Stack. Nothing is allocated, and what a call takes of the stack doesn't grow with the file or the listing. A thread that calls
+ * should have at least 128 KB of it: the join takes some 62 KB, also where it refuses at once (docs/MEASUREMENTS.md has the figures).
+ *
+ * Threads. The library has no state of its own: any number of threads may call at once, each with an output, working cells and a held
+ * listing of its own. Files and bookmarks are only read; the same one may be lent to all, if nobody changes it meanwhile. Who lends
+ * the same output, working cells or held listing to two threads at once has a data race.
+ *
+ * Version. The first number rises when a program that used the version before has to be changed or an answer changes, the second when
+ * something is added, the third otherwise.
  */
 #ifndef KIN_H
 #define KIN_H
 
 #include <stddef.h>
 #include <stdint.h>
+
+#define KIN_VERSION "1.0.0"
+#define KIN_VERSION_MAJOR 1
+#define KIN_VERSION_MINOR 0
+#define KIN_VERSION_PATCH 0
 
 #ifdef __cplusplus
 extern "C" {
@@ -93,6 +108,35 @@ uint64_t kin_join(const uint8_t *file, size_t file_length,
 static inline int kin_refused(uint64_t answer) { return (int)(answer >> 63); }
 static inline uint32_t kin_refusal_number(uint64_t answer) { return (uint32_t)(answer >> 32) & 0x7fffffffu; }
 static inline uint32_t kin_refusal_place(uint64_t answer) { return (uint32_t)answer; }
+
+/* What a refusal number means, in the words of docs/REFUSALS.md, which has 0 to 19; empty for any other number. */
+static inline const char *kin_refusal_words(uint32_t number) {
+    static const char *const words[] = {
+        "The held listing is not of 18 cells.",
+        "The file is shorter than 32 bytes, or it does not begin with the mark KLF1.",
+        "A count in the file's header is outside its limits: 1 to 1,024 persons, 0 to 4,096 links, 0 to 16 feeds.",
+        "An offset or the length in the file's header does not follow from the counts, or the length is not that of the bytes "
+        "handed over.",
+        "A feed's archive number is 0 or not above the one before it, or the feed's last byte is not 0.",
+        "A feed's date meaning is neither 1, the day of the event, nor 2, the day of registration.",
+        "The row table does not start at 0, falls somewhere, or does not end at the link count.",
+        "A link's target is not in the file, is the row's own person or is not above the target before it in the row, or the "
+        "link's feed index is not below the feed count, or its last byte is not 0.",
+        "A link's kind is unknown: known are 1 to 5 and 16 to 31.",
+        "A link's day is above 3,652,059, which is 31 December 9999.",
+        "A person asked about is not in the file.",
+        "From and To are the same person.",
+        "The hops asked for are not 1 to 8.",
+        "The classes asked for are not a sum of classes, 1 to 15.",
+        "The date meaning asked for is neither 1, the day of the event, nor 2, the day of registration.",
+        "The first day asked for is 0, the last day is above 3,652,059, or the first day is above the last.",
+        "The output has fewer than ten cells, so there is no room for one chain.",
+        "The bookmark is not ten cells, or it is not the record of a chain of this listing.",
+        "The working cells hold fewer records than there are half chains.",
+        "The program's input is shorter than 28 bytes, so there is no whole question in it."
+    };
+    return number < sizeof words / sizeof *words ? words[number] : "";
+}
 
 /* The answer of kin_check, if it is no refusal. */
 static inline uint32_t kin_persons(uint64_t answer) { return (uint32_t)answer & 0xffffu; }

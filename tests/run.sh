@@ -1,7 +1,7 @@
 #!/usr/bin/env bash
-# All tests over target/staticlib/liboutside.a and target/bin/chains, which have to stand: the independent Rust tests, the bindings for
-# Rust and Python, the header for C, and the example of each. Shows what every suite shows; the last line is the sum of their
-# results, "N passed, M failed". Ends non-zero if anything failed.
+# All tests over target/staticlib/liboutside.a and target/bin/chains, which have to stand: the independent Rust tests, the pages, reads and
+# writes that fail, the bindings for Rust and Python, the header for C, and the example of each. Shows what every suite shows; the last
+# line is the sum of their results, "N passed, M failed". Ends non-zero if anything failed.
 set -u
 cd "$(dirname "${BASH_SOURCE[0]}")/.." || exit 1
 
@@ -61,11 +61,17 @@ lists_six_persons() {
   "$@" < examples/six_persons.klf > "$work/printed" && diff crates/chains/stdout "$work/printed"
 }
 
-refuses_nothing_at_all() {
-  ! "$@" < /dev/null > "$work/printed" 2>&1 && grep '^refused 1 at 0' "$work/printed"
+# Every refusal as docs/REFUSALS.md has it, one a line: the number, and the words. What it says of number 0 stands behind the table.
+refusal_words() {
+  sed -n 's/^> /0 /p' docs/REFUSALS.md
+  sed -n 's/^| \([0-9]*\) | \([^|]*\) |.*/\1 \2/p' docs/REFUSALS.md
 }
 
-# Every example lists the six-person file as the program does, and tells the refusal of an empty file.
+refuses_nothing_at_all() {
+  ! "$@" < /dev/null > "$work/printed" 2>&1 && grep -Fx "$(refusal_words | sed -n 's/^1 /refused 1 at 0: /p')" "$work/printed"
+}
+
+# Every example lists the six-person file as the program does, and tells the refusal of an empty file with its words.
 example() {
   local words=$1
   shift
@@ -84,17 +90,62 @@ calls_every_function() {
   compile calls "$@" && "$work/calls" < examples/six_persons.klf
 }
 
+threads_are_told_the_same() {
+  compile threads cc -std=c99 -D_POSIX_C_SOURCE=200809L -pthread bindings/c/test_threads.c && "$work/threads"
+}
+
+has_the_document_s_words() {
+  compile words cc -std=c99 bindings/c/refusal_words.c && "$work/words" > "$work/printed" && refusal_words | diff - "$work/printed"
+}
+
+# The Rust package by itself, and the archive under another name, where the package finds it only if it is told.
+takes_rust_away() {
+  mkdir "$work/rust" && cp -r bindings/rust/{Cargo.toml,Cargo.lock,build.rs,src,examples} "$work/rust" &&
+    cp target/staticlib/liboutside.a "$work/proved.a"
+}
+
+rust_example() {
+  cargo run --quiet --release --offline --manifest-path "$1/Cargo.toml" --example ask
+}
+
+with_archive() {
+  local archive=$1
+  shift
+  KIN_ARCHIVE=$archive "$@"
+}
+
+names_the_missing_archive() {
+  ! with_archive "$work/nothing.a" "$@" > "$work/printed" 2>&1 && grep -F "$work/nothing.a is missing: run" "$work/printed"
+}
+
+# Into an environment of its own, without a network.
+installs_the_python_package() {
+  python3 -m venv "$work/python" && "$work/python/bin/pip" install --quiet --no-index ./bindings/python
+}
+
 cargo_tests tests
+python_tests tests/test_pages.py
+python_tests tests/test_failing.py
 
 cargo_tests bindings/rust
-example "Rust example" cargo run --quiet --release --offline --manifest-path bindings/rust/Cargo.toml --example ask
+example "Rust example" rust_example bindings/rust
+holds "Rust package, taken away" takes_rust_away
+example "Rust example, archive named" with_archive "$work/proved.a" rust_example "$work/rust"
+holds "Rust package, archive missing" names_the_missing_archive rust_example "$work/rust"
 
 holds "shared library" bash bindings/python/build.sh
+holds "shared library, archive missing" names_the_missing_archive bash bindings/python/build.sh
 python_tests bindings/python/test_kin.py
+python_tests bindings/python/test_packing.py
 example "Python example" python3 bindings/python/ask.py
+holds "Python package, installed" installs_the_python_package
+# -I keeps the folder of the example out of sight, and with it the package that lies there.
+example "Python example, package installed" "$work/python/bin/python" -I bindings/python/ask.py
 
 holds "every function from C" calls_every_function cc -std=c99 bindings/c/test_kin.c
 holds "every function from C++" calls_every_function c++ -std=c++11 -x c++ bindings/c/test_kin.c
+holds "threads from C" threads_are_told_the_same
+holds "refusals in the header" has_the_document_s_words
 holds "C example, built" compile ask cc -std=c99 examples/ask.c
 example "C example" "$work/ask"
 

@@ -1,4 +1,4 @@
-/* Calls every function that include/kin.h declares on the six-person file, which comes on standard input. It is C and C++. */
+/* Calls every function that include/kin.h declares, on the six-person file, which comes on standard input. It is C and C++. */
 #include <stdio.h>
 #include <string.h>
 
@@ -107,6 +107,18 @@ static void test_join(void) {
     expect("first half chain", working[1], 5);
 }
 
+/* That the words are those of docs/REFUSALS.md, line by line, is asked of what refusal_words.c prints. */
+static void test_refusal_words(void) {
+    expect("no words for 20", (uint64_t)*kin_refusal_words(20), 0);
+    expect("no words for the highest number", (uint64_t)*kin_refusal_words(UINT32_MAX), 0);
+}
+
+static void test_version(void) {
+    char version[40];
+    snprintf(version, sizeof version, "%d.%d.%d", KIN_VERSION_MAJOR, KIN_VERSION_MINOR, KIN_VERSION_PATCH);
+    expect("the version in numbers and in words", (uint64_t)(strcmp(version, KIN_VERSION) != 0), 0);
+}
+
 int main(void) {
     length = fread(file, 1, sizeof file, stdin);
     test_check();
@@ -114,5 +126,7 @@ int main(void) {
     test_portion();
     test_held();
     test_join();
+    test_refusal_words();
+    test_version();
     return faults != 0;
 }

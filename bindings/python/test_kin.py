@@ -1,5 +1,6 @@
 """Tests of the binding: the customer's cases on the six-person file, refusals, portions, and a lister of its own on random files."""
 
+import datetime
 import itertools
 import os
 import pickle
@@ -7,6 +8,7 @@ import random
 import struct
 import subprocess
 import sys
+import traceback
 import unittest
 from pathlib import Path
 
@@ -90,10 +92,15 @@ class SixPersons(Case):
             (Q._replace(hops=3), [FIRST, THIRD]),
             (Q._replace(hops=2), []),
             (Q._replace(classes=1), [FIRST]),
+            (Q._replace(classes=kin.Classes.PARENT_CHILD_SIBLING), [FIRST]),
             (Q._replace(meaning=2), []),
+            (Q._replace(meaning=kin.DateMeaning.REGISTRATION), []),
             (Q._replace(first_day=700_001), [SECOND, THIRD]),
+            (Q._replace(first_day=datetime.date(1917, 7, 16)), [SECOND, THIRD]),
             (Q._replace(last_day=700_400), [FIRST, SECOND, THIRD]),
+            (Q._replace(last_day=datetime.date(1918, 8, 19)), [FIRST, SECOND, THIRD]),
             (Q._replace(last_day=700_399), []),
+            (Q._replace(last_day=datetime.date(1918, 8, 18)), []),
             (Q._replace(hops=8), [FIRST, SECOND, THIRD]),
         ):
             with self.subTest(question):
@@ -130,11 +137,79 @@ class SixPersons(Case):
         self.assertEqual(kin.links_in(kin.row_view(SIX_PERSONS, 6)), [])
         self.assertEqual(len(kin.row_view(SIX_PERSONS[:187], 0)), 0)
 
+    def test_the_dates_of_links(self):
+        dates = [link.date for person in (0, 4) for link in kin.links_in(kin.row_view(SIX_PERSONS, person))]
+        self.assertEqual(dates, [datetime.date(1917, 7, 15), None, datetime.date(1918, 11, 27)])
+        self.assertEqual(kin.Link(0, kin.LAST_DAY, 0, 1).date, datetime.date(9999, 12, 31))
+
     def test_a_row_view_is_the_very_part_of_the_file(self):
         file = bytearray(SIX_PERSONS)
         view = kin.row_view(file, 4)
         file[164] = 0
         self.assertEqual(kin.links_in(view)[0].target, 0)
+
+
+class Questions(Case):
+    def test_names_stand_for_the_customer_s_numbers(self):
+        of = kin.Classes
+        self.assertEqual([of.PARENT_CHILD_SIBLING, of.SPOUSE, of.SAME_PERSON, of.NAMED_TOGETHER, of.ALL], [1, 2, 4, 8, 15])
+        self.assertEqual([kin.DateMeaning.EVENT, kin.DateMeaning.REGISTRATION], [1, 2])
+        self.assertIs(of.SPOUSE | of.PARENT_CHILD_SIBLING | of.SAME_PERSON | of.NAMED_TOGETHER, of.ALL)
+
+    def test_without_a_word_everything_counts(self):
+        self.assertEqual(Q, (0, 5, 4, kin.Classes.ALL, kin.DateMeaning.EVENT, 1, kin.LAST_DAY))
+
+    def test_a_date_is_taken_where_a_day_is(self):
+        by_date = Q._replace(first_day=datetime.date.min, last_day=datetime.date.max)
+        self.assertEqual(kin.HeldListing(by_date).cells, kin.HeldListing(Q).cells)
+        late = Q._replace(first_day=datetime.date(1917, 7, 16))
+        self.assertEqual(kin.portion(SIX_PERSONS, late), ([SECOND, THIRD], True))
+        self.assertEqual(kin.join(SIX_PERSONS, late).portion, ([THIRD, SECOND], True))
+        self.assertIsNone(kin.fewest_hops(SIX_PERSONS, late._replace(last_day=datetime.date(1918, 8, 18)), 3))
+        backwards = Q._replace(first_day=datetime.date(1918, 1, 1), last_day=datetime.date(1917, 12, 31))
+        self.assert_refused(15, 0, lambda: listed(backwards))
+
+    def test_a_date_is_taken_nowhere_else(self):
+        self.assertRaises(TypeError, listed, Q._replace(to_person=datetime.date(1, 1, 5)))
+
+
+class Shown(Case):
+    def test_what_is_handed_out_shows_what_it_is(self):
+        for shown, right in (
+            (kin.check(SIX_PERSONS), "Counts(persons=6, links=10, feeds=2)"),
+            (kin.links_in(kin.row_view(SIX_PERSONS, 1))[0], "Link(target=3, day=700100, feed=0, kind=1)"),
+            (kin.portion(SIX_PERSONS, Q, 1), "Portion(chains=[(0, 1, 3, 5)], ended=False)"),
+            (kin.join(SIX_PERSONS, Q._replace(hops=1)), "Joined(portion=Portion(chains=[], ended=True), half_chains=[(5,)])"),
+            (kin.Refused(10, 1), "Refused(number=10, place=1)"),
+            (kin.DateMeaning.EVENT, "<DateMeaning.EVENT: 1>"),
+            (kin.Classes.ALL, "<Classes.ALL: 15>"),
+        ):
+            self.assertEqual(repr(shown), right)
+
+    def test_questions_and_held_listings(self):
+        held = kin.HeldListing(Q)
+        asked = (
+            "Question(from_person=0, to_person=5, hops=4, classes=<Classes.ALL: 15>, meaning=<DateMeaning.EVENT: 1>, "
+            "first_day=1, last_day=3652059)"
+        )
+        self.assertEqual(repr(Q), asked)
+        self.assertEqual(repr(held), f"HeldListing({asked}, after=None)")
+        held.move_on(SIX_PERSONS, 2)
+        self.assertEqual(repr(held), f"HeldListing({asked}, after=(0, 2, 1, 3, 5))")
+
+    def test_chains_show_how_far_they_have_come(self):
+        to_come = kin.chains(SIX_PERSONS, Q)
+        self.assertEqual(repr(to_come), f"Chains({Q}, after=None)")
+        self.assertEqual((next(to_come), to_come.last), (FIRST, FIRST))
+        self.assertEqual(repr(to_come), f"Chains({Q}, after=(0, 1, 3, 5))")
+        self.assertEqual(list(kin.chains(SIX_PERSONS, Q, after=to_come.last)), [SECOND, THIRD])
+        self.assertEqual((list(to_come), to_come.last), ([SECOND, THIRD], THIRD))
+
+    def test_cells_that_make_no_sense(self):
+        for cells in ([4_000_000_000] * 18, [3] * 18, [0] * 18):
+            held = kin.HeldListing.from_cells(cells)
+            self.assertEqual(held.question, tuple(cells[:7]))
+            self.assertIn("HeldListing(Question(from_person=", repr(held))
 
 
 class Refusals(Case):
@@ -167,6 +242,11 @@ class Refusals(Case):
                 self.assert_refused(17, 0, lambda: listed(Q, after=bookmark))
         self.assert_refused(17, 0, lambda: kin.portion(SIX_PERSONS, Q._replace(hops=3), 2, SECOND))
 
+    def test_a_refusal_comes_once_and_with_the_first_chain(self):
+        refused = kin.chains(b"", Q)
+        self.assert_refused(1, 0, lambda: next(refused))
+        self.assertEqual((list(refused), refused.last), ([], None))
+
     def test_no_room(self):
         self.assert_refused(16, 0, lambda: kin.portion(SIX_PERSONS, Q, 0))
         self.assert_refused(16, 0, lambda: listed(Q, room=0))
@@ -189,6 +269,10 @@ class Refusals(Case):
         again = pickle.loads(pickle.dumps(kin.Refused(5, 1)))
         self.assertEqual((again.number, again.place), (5, 1))
 
+    def test_a_traceback_names_it_as_it_is_had(self):
+        told = traceback.format_exception_only(kin.Refused, kin.Refused(11, 0))
+        self.assertEqual(told, ["kin.Refused: refused 11 at 0: From and To are the same person.\n"])
+
 
 class Portions(Case):
     def test_every_room_gives_the_same_listing(self):
@@ -208,8 +292,10 @@ class Portions(Case):
     def test_held_listing(self):
         held = kin.HeldListing(Q)
         self.assertEqual(held.cells, [*Q, 0, *[0] * 10])
+        self.assertEqual((held.question, held.last), (Q, None))
         self.assertEqual(held.move_on(SIX_PERSONS, 2), ([FIRST, SECOND], False))
         self.assertEqual(held.cells, [*Q, 1, 4, *SECOND, 0, 0, 0, 0])
+        self.assertEqual((held.question, held.last), (Q, SECOND))
         again = kin.HeldListing.from_cells(held.cells)
         self.assertEqual(again.move_on(SIX_PERSONS), ([THIRD], True))
         after = again.cells
@@ -234,11 +320,17 @@ class OtherArguments(Case):
             self.assertRaises(TypeError, kin.check, file)
         self.assertRaises(TypeError, kin.fewest_hops, SIX_PERSONS, Q, 1.5)
 
+
+class Package(Case):
     def test_a_library_that_is_not_there(self):
         elsewhere = {**os.environ, "KIN_LIBRARY": "/nowhere/libkin.so"}
         command = [sys.executable, "-c", "import kin"]
         tried = subprocess.run(command, cwd=Path(__file__).parent, env=elsewhere, capture_output=True, text=True)
         self.assertIn("ImportError: /nowhere/libkin.so cannot be loaded: run bindings/python/build.sh", tried.stderr)
+
+    def test_the_version_is_the_header_s(self):
+        header = (ROOT / "include" / "kin.h").read_text().splitlines()
+        self.assertIn(f'#define KIN_VERSION "{kin.__version__}"', header)
 
 
 class RandomFiles(Case):

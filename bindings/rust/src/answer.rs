@@ -13,31 +13,23 @@ pub struct Counts {
     pub feeds: u32,
 }
 
-/// The answer to a request for chains: listed or refused.
+/// What was listed: chains were written to the output, from its first cell on. The other cells are as they came.
 ///
 /// ```
-/// use kin::{Answer, Question, Start};
+/// use kin::{Question, Start};
 ///
 /// let file = std::fs::read("../../examples/six_persons.klf")?;
 /// let mut output = [0; 20];
-/// let answer = kin::portion(&file, Question::between(0, 5, 4), Start::Fresh, &mut output);
-/// let Answer::Listed { count, ended } = answer else {
-///     panic!("the file and the question are sound");
-/// };
-/// assert_eq!((count, ended), (2, false));
-/// # Ok::<(), std::io::Error>(())
+/// let listed = kin::portion(&file, Question::between(0, 5, 4), Start::Fresh, &mut output)?;
+/// assert_eq!((listed.count, listed.ended), (2, false));
+/// # Ok::<(), Box<dyn std::error::Error>>(())
 /// ```
 #[derive(Clone, Copy, Debug, PartialEq, Eq, Hash)]
-pub enum Answer {
-    /// Chains were written to the output, from its first cell on. The other cells are as they came.
-    Listed {
-        /// How many chains were written.
-        count: usize,
-        /// Whether no chain follows the last one written.
-        ended: bool,
-    },
-    /// Nothing was listed, and every lent cell is as it came.
-    Refused(Refused),
+pub struct Listed {
+    /// How many chains were written.
+    pub count: usize,
+    /// Whether no chain follows the last one written.
+    pub ended: bool,
 }
 
 /// The bit that says refused; below it stand the number, from bit 32 on, and the place.
@@ -66,12 +58,10 @@ pub(crate) fn counts(answer: u64) -> Result<Counts, Refused> {
     })
 }
 
-pub(crate) fn listed(answer: u64) -> Answer {
-    match not_refused(answer) {
-        Ok(told) => Answer::Listed {
-            count: (told & (ENDED - 1)) as usize,
-            ended: told & ENDED != 0,
-        },
-        Err(refused) => Answer::Refused(refused),
-    }
+pub(crate) fn listed(answer: u64) -> Result<Listed, Refused> {
+    let told = not_refused(answer)?;
+    Ok(Listed {
+        count: (told & (ENDED - 1)) as usize,
+        ended: told & ENDED != 0,
+    })
 }

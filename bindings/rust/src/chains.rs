@@ -3,7 +3,7 @@
 use std::iter::FusedIterator;
 use std::ops::Range;
 
-use crate::{Answer, Chain, HeldListing, Question, Refused, RECORD_CELLS};
+use crate::{Chain, HeldListing, Question, Refused, RECORD_CELLS};
 
 /// Chains a portion, unless another room is asked for: 40 KB of cells. Each portion checks the file again.
 const ROOM: u16 = 1_024;
@@ -68,11 +68,11 @@ impl Iterator for Chains<'_> {
     fn next(&mut self) -> Option<Self::Item> {
         if self.waiting.is_empty() && !self.over {
             match self.held.move_on(self.file, &mut self.output) {
-                Answer::Listed { count, ended } => {
-                    self.waiting = 0..count;
-                    self.over = ended;
+                Ok(listed) => {
+                    self.waiting = 0..listed.count;
+                    self.over = listed.ended;
                 }
-                Answer::Refused(refused) => {
+                Err(refused) => {
                     self.over = true;
                     return Some(Err(refused));
                 }

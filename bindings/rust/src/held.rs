@@ -1,7 +1,7 @@
 //! The held listing: a place in a listing, kept between calls.
 
 use crate::answer::listed;
-use crate::{outside, Answer, Chain, Question, RECORD_CELLS};
+use crate::{outside, Chain, Listed, Question, Refused, RECORD_CELLS};
 
 /// The cells of a held listing: the seven numbers of its question, started, the record of the last chain.
 pub const HELD_CELLS: usize = 18;
@@ -12,18 +12,18 @@ const RECORD: usize = HELD_CELLS - RECORD_CELLS;
 /// A question and how far its listing has come. Each call moves it on by a portion.
 ///
 /// ```
-/// use kin::{Answer, HeldListing, Question};
+/// use kin::{HeldListing, Listed, Question};
 ///
 /// let file = std::fs::read("../../examples/six_persons.klf")?;
 /// let mut held = HeldListing::new(Question::between(0, 5, 4));
 /// let mut output = [0; 20];
-/// assert_eq!(held.move_on(&file, &mut output), Answer::Listed { count: 2, ended: false });
+/// assert_eq!(held.move_on(&file, &mut output)?, Listed { count: 2, ended: false });
 /// assert_eq!(held.last().unwrap().persons(), [0, 2, 1, 3, 5]);
 ///
 /// // Put away and taken up again.
 /// let mut held = HeldListing::from_cells(*held.cells());
-/// assert_eq!(held.move_on(&file, &mut output), Answer::Listed { count: 1, ended: true });
-/// # Ok::<(), std::io::Error>(())
+/// assert_eq!(held.move_on(&file, &mut output)?, Listed { count: 1, ended: true });
+/// # Ok::<(), Box<dyn std::error::Error>>(())
 /// ```
 #[derive(Clone, Copy, Debug, PartialEq, Eq, Hash)]
 pub struct HeldListing {
@@ -34,16 +34,7 @@ impl HeldListing {
     /// A listing not yet started.
     pub fn new(question: Question) -> HeldListing {
         let mut cells = [0; HELD_CELLS];
-        let numbers = [
-            question.from,
-            question.to,
-            question.hops,
-            question.classes,
-            question.meaning,
-            question.first_day,
-            question.last_day,
-        ];
-        cells[..STARTED].copy_from_slice(&numbers);
+        cells[..STARTED].copy_from_slice(&question.numbers());
         HeldListing { cells }
     }
 
@@ -67,16 +58,7 @@ impl HeldListing {
 
     /// The question, which no call changes.
     pub fn question(&self) -> Question {
-        let [from, to, hops, classes, meaning, first_day, last_day, ..] = self.cells;
-        Question {
-            from,
-            to,
-            hops,
-            classes,
-            meaning,
-            first_day,
-            last_day,
-        }
+        Question::from_numbers(std::array::from_fn(|place| self.cells[place]))
     }
 
     /// The last chain handed over; nothing if the listing isn't started.
@@ -89,7 +71,7 @@ impl HeldListing {
 
     /// Writes the next chains to the output and keeps the last of them. Refusals and answer are those of
     /// [`portion`](crate::portion); a refusal, and a portion without chains, changes nothing here.
-    pub fn move_on(&mut self, file: &[u8], output: &mut [u32]) -> Answer {
+    pub fn move_on(&mut self, file: &[u8], output: &mut [u32]) -> Result<Listed, Refused> {
         listed(outside::held(&mut self.cells, file, output))
     }
 }

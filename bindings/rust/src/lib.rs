@@ -27,12 +27,18 @@
 //! | ask for one portion of them | [`portion`], then [`chains_in`] |
 //! | keep a place in a listing | [`HeldListing`] |
 //! | have the shortest chains first | [`join`], then [`chains_in`] |
+//!
+//! The library has no state of its own, so that any number of threads may call at once; `include/kin.h` says how much stack
+//! each should have. When this package is built, the environment variable `KIN_ARCHIVE` names the library's archive, by its
+//! whole path, if it isn't this house's `target/staticlib/liboutside.a`.
 
 #![deny(missing_docs)]
 
 mod answer;
 mod chain;
 mod chains;
+mod classes;
+mod date_meaning;
 mod held;
 mod links;
 mod operations;
@@ -40,11 +46,16 @@ mod outside;
 mod question;
 mod refused;
 
-pub use answer::{Answer, Counts};
+pub use answer::{Counts, Listed};
 pub use chain::{chains_in, Chain, RECORD_CELLS};
 pub use chains::{chains, Chains};
+pub use classes::Classes;
+pub use date_meaning::DateMeaning;
 pub use held::{HeldListing, HELD_CELLS};
 pub use links::{links_in, row_view, Link};
 pub use operations::{check, fewest_hops, join, portion, Start};
 pub use question::{Question, LAST_DAY};
 pub use refused::Refused;
+
+/// The version of this package, which is that of `include/kin.h`.
+pub const VERSION: &str = env!("CARGO_PKG_VERSION");

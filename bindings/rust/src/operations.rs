@@ -1,7 +1,7 @@
 //! The operations that take a file and a question and keep nothing.
 
 use crate::answer::{counts, listed, not_refused};
-use crate::{outside, Answer, Counts, Question, Refused};
+use crate::{outside, Counts, Listed, Question, Refused};
 
 /// Where a portion begins.
 #[derive(Clone, Copy, Debug, PartialEq, Eq, Hash)]
@@ -44,17 +44,22 @@ pub fn fewest_hops(file: &[u8], question: Question, person: u32) -> Result<Optio
 /// Writes the next chains to the output, in dictionary order, as many as it has room for, ten cells a chain. Refusals 1 to 17.
 ///
 /// ```
-/// use kin::{Answer, Question, Start};
+/// use kin::{Listed, Question, Start};
 ///
 /// let file = std::fs::read("../../examples/six_persons.klf")?;
 /// let bookmark = [4, 0, 2, 1, 3, 5, 0, 0, 0, 0];
 /// let mut output = [0; 20];
-/// let answer = kin::portion(&file, Question::between(0, 5, 4), Start::After(&bookmark), &mut output);
-/// assert_eq!(answer, Answer::Listed { count: 1, ended: true });
+/// let listed = kin::portion(&file, Question::between(0, 5, 4), Start::After(&bookmark), &mut output)?;
+/// assert_eq!(listed, Listed { count: 1, ended: true });
 /// assert_eq!(output[..5], [3, 0, 2, 3, 5]);
-/// # Ok::<(), std::io::Error>(())
+/// # Ok::<(), Box<dyn std::error::Error>>(())
 /// ```
-pub fn portion(file: &[u8], question: Question, start: Start<'_>, output: &mut [u32]) -> Answer {
+pub fn portion(
+    file: &[u8],
+    question: Question,
+    start: Start<'_>,
+    output: &mut [u32],
+) -> Result<Listed, Refused> {
     let (started, bookmark) = match start {
         Start::Fresh => (0, &[][..]),
         Start::After(bookmark) => (1, bookmark),
@@ -69,16 +74,21 @@ pub fn portion(file: &[u8], question: Question, start: Start<'_>, output: &mut [
 /// cells each; the working cells behind them are as they came.
 ///
 /// ```
-/// use kin::{Answer, Question};
+/// use kin::{Listed, Question};
 ///
 /// let file = std::fs::read("../../examples/six_persons.klf")?;
 /// let (mut working, mut output) = ([0; 50], [0; 30]);
-/// let answer = kin::join(&file, Question::between(0, 5, 4), &mut working, &mut output);
-/// assert_eq!(answer, Answer::Listed { count: 3, ended: true });
-/// let hops: Vec<usize> = kin::chains_in(&output, 3).map(|chain| chain.hops()).collect();
+/// let listed = kin::join(&file, Question::between(0, 5, 4), &mut working, &mut output)?;
+/// assert_eq!(listed, Listed { count: 3, ended: true });
+/// let hops: Vec<usize> = kin::chains_in(&output, listed.count).map(|chain| chain.hops()).collect();
 /// assert_eq!(hops, [3, 3, 4]);
-/// # Ok::<(), std::io::Error>(())
+/// # Ok::<(), Box<dyn std::error::Error>>(())
 /// ```
-pub fn join(file: &[u8], question: Question, working: &mut [u32], output: &mut [u32]) -> Answer {
+pub fn join(
+    file: &[u8],
+    question: Question,
+    working: &mut [u32],
+    output: &mut [u32],
+) -> Result<Listed, Refused> {
     listed(outside::join(file, question, working, output))
 }

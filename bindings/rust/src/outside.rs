@@ -72,18 +72,19 @@ pub(crate) fn row(file: &[u8], person: u32) -> u64 {
 }
 
 pub(crate) fn fewest(file: &[u8], question: Question, person: u32) -> u64 {
+    let [from, to, hops, classes, meaning, first, last] = question.numbers();
     // SAFETY: as said above.
     unsafe {
         kin_fewest(
             file.as_ptr(),
             file.len(),
-            question.from,
-            question.to,
-            question.hops,
-            question.classes,
-            question.meaning,
-            question.first_day,
-            question.last_day,
+            from,
+            to,
+            hops,
+            classes,
+            meaning,
+            first,
+            last,
             person,
         )
     }
@@ -96,18 +97,19 @@ pub(crate) fn portion(
     bookmark: &[u32],
     output: &mut [u32],
 ) -> u64 {
+    let [from, to, hops, classes, meaning, first, last] = question.numbers();
     // SAFETY: as said above.
     unsafe {
         kin_portion(
             file.as_ptr(),
             file.len(),
-            question.from,
-            question.to,
-            question.hops,
-            question.classes,
-            question.meaning,
-            question.first_day,
-            question.last_day,
+            from,
+            to,
+            hops,
+            classes,
+            meaning,
+            first,
+            last,
             started,
             bookmark.as_ptr(),
             bookmark.len(),
@@ -137,18 +139,19 @@ pub(crate) fn join(
     working: &mut [u32],
     output: &mut [u32],
 ) -> u64 {
+    let [from, to, hops, classes, meaning, first, last] = question.numbers();
     // SAFETY: as said above.
     unsafe {
         kin_join(
             file.as_ptr(),
             file.len(),
-            question.from,
-            question.to,
-            question.hops,
-            question.classes,
-            question.meaning,
-            question.first_day,
-            question.last_day,
+            from,
+            to,
+            hops,
+            classes,
+            meaning,
+            first,
+            last,
             working.as_mut_ptr(),
             working.len(),
             output.as_mut_ptr(),

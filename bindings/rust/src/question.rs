@@ -1,5 +1,7 @@
 //! What is asked.
 
+use crate::{Classes, DateMeaning};
+
 /// 31 December 9999, the last day a link or a question can name. Day 1 is 1 January of year 1.
 pub const LAST_DAY: u32 = 3_652_059;
 
@@ -8,12 +10,12 @@ pub const LAST_DAY: u32 = 3_652_059;
 /// A question may hold any numbers; the library refuses those that make no sense (refusals 10 to 15).
 ///
 /// ```
-/// use kin::Question;
+/// use kin::{Classes, DateMeaning, Question};
 ///
-/// // Blood and marriage only, by the day of registration, up to the end of the year 1800.
+/// // Family and marriage only, by the day of registration, up to the end of the year 1800.
 /// let question = Question {
-///     classes: 1 + 2,
-///     meaning: 2,
+///     classes: Classes::PARENT_CHILD_SIBLING | Classes::SPOUSE,
+///     meaning: DateMeaning::REGISTRATION,
 ///     last_day: 657_436,
 ///     ..Question::between(0, 5, 4)
 /// };
@@ -27,10 +29,10 @@ pub struct Question {
     pub to: u32,
     /// The most hops of a chain, 1 to 8.
     pub hops: u32,
-    /// The classes of link that count, added up: 1 parent, child or sibling, 2 spouse, 4 same person, 8 named together.
-    pub classes: u32,
-    /// What a day has to mean for a dated link to count: 1 the day of the event, 2 the day of registration.
-    pub meaning: u32,
+    /// The classes of link that count.
+    pub classes: Classes,
+    /// What a day has to mean for a dated link to count.
+    pub meaning: DateMeaning,
     /// The first day that counts.
     pub first_day: u32,
     /// The last day that counts.
@@ -44,10 +46,37 @@ impl Question {
             from,
             to,
             hops,
-            classes: 15,
-            meaning: 1,
+            classes: Classes::ALL,
+            meaning: DateMeaning::EVENT,
             first_day: 1,
             last_day: LAST_DAY,
+        }
+    }
+
+    /// The seven numbers, in the order in which the library takes them.
+    pub(crate) fn numbers(&self) -> [u32; 7] {
+        [
+            self.from,
+            self.to,
+            self.hops,
+            self.classes.number(),
+            self.meaning.number(),
+            self.first_day,
+            self.last_day,
+        ]
+    }
+
+    /// The question that has these numbers.
+    pub(crate) fn from_numbers(numbers: [u32; 7]) -> Question {
+        let [from, to, hops, classes, meaning, first_day, last_day] = numbers;
+        Question {
+            from,
+            to,
+            hops,
+            classes: Classes::from_number(classes),
+            meaning: DateMeaning::from_number(meaning),
+            first_day,
+            last_day,
         }
     }
 }

@@ -10,7 +10,7 @@ bytes16 x = x % 256 ∷ x / 256 ∷ []
 abbrev pub bytes32 : ℕ → List ℕ
 bytes32 x = bytes16 (x % 65536) ++ bytes16 (x / 65536)
 
--- "archive number (16 bits), date meaning (8 bits), a zero byte"
+-- a feed: "archive number" in 16 bits, "date meaning (8 bits), a zero byte"
 abbrev pub feedBytes : ℕ → ℕ → List ℕ
 feedBytes archive meaning = bytes16 archive ++ (meaning ∷ 0 ∷ [])
 

@@ -49,7 +49,7 @@ abbrev pub textFor : Fault → List (List ℕ) → ℕ → List ℕ
 textFor sound chains before = chainLines chains ++ endLine (before + length chains)
 textFor (fault number place) chains before = refusalLine number place
 
--- "reads from standard input seven 32-bit numbers, then the file": all that is printed for such an input
+-- "reads from standard input seven 32-bit numbers, the question in the order above, then the file": all that is printed for such an input
 abbrev pub printed : List ℕ → List ℕ
 printed input =
     cond (ltb (length input) questionSize) (refusalLine 19 0)

@@ -1,5 +1,5 @@
 -- The compact graph. Definitions only.
--- "Person p owns links row[p] up to but without row[p+1]. In one row the targets strictly rise."
+-- "Person p owns links row[p] up to but without row[p+1]." "In one row the targets strictly rise"
 use mathlib.Core.Path.{_≡_}
 use mathlib.Core.List.{List}
 use Prim.Native.Nat.{ℕ, suc, _+_, _≤_, _<_}

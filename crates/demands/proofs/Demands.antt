@@ -1,19 +1,22 @@
--- The three demands, proved.
+-- The three demands, proved; the fewest hops, and what is told at the C door.
 use mathlib.Core.Path.{_≡_}
 use mathlib.Core.List.{List}
 use Prim.Native.Nat.{ℕ}
 use Rattle.linkfile.specs.Verdict.{sound}
 use Rattle.question.specs.declared.Question.{Question}
 use Rattle.question.specs.Asked.{askedFault}
-use Rattle.demands.specs.Demands.{DemandOne, DemandTwo, DemandThree}
+use Rattle.demands.specs.Demands.{DemandOne, DemandTwo, DemandThree, FewestAsSaid}
+use Rattle.demands.specs.Door.{AtTheDoor}
 use Rattle.demands.proofs.OneResult.{one-result}
-use Rattle.demands.proofs.Ending.{check-ends, row-ends, fewest-ends, portion-ends, held-ends, join-ends}
+use Rattle.demands.proofs.Ending.{every-ends, refusal-leaves}
 use Rattle.demands.proofs.Paths as paths
 use Rattle.demands.proofs.Laid as laid
+use Rattle.demands.proofs.Fewest as fewest
+use Rattle.demands.proofs.Door as door
 
 -- whatever came in
 pub demand-one : DemandOne
-demand-one = record { oneResult = one-result; check = check-ends; row = row-ends; fewest = fewest-ends; portion = portion-ends; held = held-ends; join = join-ends }
+demand-one = record { ends = every-ends; nobodyChecked = one-result; leaves = refusal-leaves }
 
 -- wherever the file and the question pass
 pub demand-two : (file : List ℕ) (q : Question) → askedFault file q ≡ sound → DemandTwo file q
@@ -21,3 +24,9 @@ demand-two = paths.demand-two
 
 pub demand-three : (file : List ℕ) (q : Question) → askedFault file q ≡ sound → DemandThree file q
 demand-three = laid.demand-three
+
+pub fewest-as-said : FewestAsSaid
+fewest-as-said = fewest.fewest-as-said
+
+pub at-the-door : AtTheDoor
+at-the-door = door.at-the-door

@@ -2,40 +2,45 @@
 use mathlib.Core.Path.{_≡_, ap, subst, _∙_}
 use mathlib.Core.Logic.{inl, inr}
 use mathlib.Core.List.{List, [], _∷_}
-use Prim.Native.Nat.{ℕ, _+_, _≤_}
+use Prim.Native.Nat.{ℕ, _≤_}
 use native.Mathlib.Omega.{arith}
 use lib.ListN.{length, drop, length-drop}
 use lib.Seq.{take-all}
 use Rattle.linkfile.specs.Verdict.{sound}
-use Rattle.ways.specs.Records.{roomOf, cellsOf}
+use Rattle.ways.specs.Records.{cellsOf}
 use Rattle.ways.specs.Sizes.{recordSize}
 use Rattle.question.specs.declared.Question.{Question}
 use Rattle.question.specs.Asked.{askedFault}
-use Rattle.portion.specs.Listing.{listingFor}
-use Rattle.portion.specs.EndToEnd.{Call, allRoom, EndsRight, LaidEndToEnd}
+use Rattle.portion.specs.Listing.{listingFor, bookmarked, startFault}
+use Rattle.portion.specs.EndToEnd.{Call, roomIn, allWrote, allRoom, EndsRight, Laid, LaidEndToEnd, Resumed}
 use Rattle.portion.proofs.LaidEnd.{laid-end-to-end, laid-behind}
-use Rattle.held.proofs.Onward.{held-end-to-end, held-ended}
-use Rattle.demands.specs.Demands.{SomeEnded, EndToEnd, DemandThree}
+use Rattle.held.proofs.Onward.{held-end-to-end, held-resumed, held-ended}
+use Rattle.demands.specs.Demands.{SomeEnded, DemandThree}
 
 -- where nothing is left there were no more
 none-left : (n : ℕ) (L : List (List ℕ)) → drop n L ≡ [] → length L ≤ n
 none-left n L e = omega (arith, length-drop n L, ap length e)
 
--- once one call says ended, the rooms together hold the list
-ended-all : (L : List (List ℕ)) (n : ℕ) (calls : List Call) → EndsRight L n calls → SomeEnded calls → length L ≤ n + allRoom calls
-ended-all L n [] ends some = absurd some
-ended-all L n (call ∷ calls) ends (inl e) = let h = none-left (n + roomOf recordSize (length (call .out))) L (ends .0 .0 e) in omega arith
-ended-all L n (call ∷ calls) ends (inr some) = let h = ended-all L (n + roomOf recordSize (length (call .out))) calls (ends .1) some in omega arith
+-- once one call says ended, the rooms together hold what was left
+ended-all : (left : List (List ℕ)) (calls : List Call) → EndsRight left calls → SomeEnded calls → length left ≤ allRoom calls
+ended-all left [] ends some = absurd some
+ended-all left (call ∷ calls) ends (inl e) = let h = none-left (roomIn call) left (ends .0 .0 e) in omega arith
+ended-all left (call ∷ calls) ends (inr some) = omega (arith, length-drop (roomIn call) left, ended-all (drop (roomIn call) left) calls (ends .1) some)
 
-laid-whole : {file : List ℕ} {q : Question} {calls : List Call} → LaidEndToEnd file q calls → EndToEnd file q calls
-laid-whole {file} {q} {calls} laid =
-    record { laid = laid; whole = λ some. laid .cells ∙ ap (cellsOf recordSize) (take-all (allRoom calls) (listingFor file q) (let h = ended-all (listingFor file q) 0 calls (laid .ends) some in omega arith)) }
+laid-whole : {left : List (List ℕ)} {calls : List Call} → Laid left calls → SomeEnded calls → allWrote calls ≡ cellsOf recordSize left
+laid-whole {left} {calls} laid some = laid .cells ∙ ap (cellsOf recordSize) (take-all (allRoom calls) left (ended-all left calls (laid .ends) some))
 
 pub demand-three : (file : List ℕ) (q : Question) → askedFault file q ≡ sound → DemandThree file q
 demand-three file q asked =
     record {
-      portions = λ run. laid-whole (laid-end-to-end file q asked run);
+      laidEndToEnd = λ run. laid-end-to-end file q asked run .cells;
+      bringsAndEnds = λ run. let laid = laid-end-to-end file q asked run in (laid .brings, laid .ends);
+      whole = λ run. laid-whole (laid-end-to-end file q asked run);
       resumed = λ bookmark passing run. laid-behind file q asked bookmark passing run;
-      held = λ {held} {held′} {calls} same unstarted run. laid-whole (subst (λ (x : Question). LaidEndToEnd file x calls) same (held-end-to-end (ap (askedFault file) same ∙ asked) unstarted run));
+      held = λ {held} {held′} {calls} same unstarted run. subst (λ (x : Question). LaidEndToEnd file x calls) same (held-end-to-end (ap (askedFault file) same ∙ asked) unstarted run);
+      heldResumed = λ {held} {held′} {calls} same started passing run.
+          subst (λ (x : Question). Resumed file x (held .«record») calls) same
+          (held-resumed (ap (askedFault file) same ∙ asked) started (ap (λ (x : Question). startFault (listingFor file x) (bookmarked (held .«record»))) same ∙ passing) run);
+      wholeRest = laid-whole;
       heldEnded = λ moved said run. held-ended moved said run;
     }

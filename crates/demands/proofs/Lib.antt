@@ -3,4 +3,6 @@ pub mod OneResult
 pub mod Ending
 pub mod Paths
 pub mod Laid
+pub mod Fewest
+pub mod Door
 pub mod Demands

@@ -1,17 +1,20 @@
 -- Demand 2: the simple paths of the customer's words are the chains over the graph of the admitted links, and these are what is listed.
 use mathlib.Core.Path.{_≡_, refl, _∙_}
 use mathlib.Core.Logic.{_≢_, _↔_}
-use mathlib.Core.List.{List, [], _∷_}
-use Prim.Native.Nat.{ℕ, _≤_}
+use mathlib.Core.List.{List, [], _∷_, List·Memᴰ·not-nil, List·Memᴰ·eq-of-singleton}
+use Prim.Native.Nat.{ℕ, _≤_, _<_}
 use native.Mathlib.Omega.{arith}
 use lib.ListN.{length}
 use borrow.Author.Tests.{le-leb}
+use Rattle.linkfile.specs.Format.{personCount}
 use Rattle.linkfile.specs.Verdict.{sound}
 use Rattle.ways.specs.Graph.{_∈_}
 use Rattle.ways.specs.Chain.{Linked, Chain}
 use Rattle.ways.proofs.Listed.{exact}
 use Rattle.ways.proofs.Ordered.{once-each, determined}
 use Rattle.ways.proofs.ByHops.{byHops-iff, byHops-ordered, byHops-once}
+use Rattle.ways.proofs.Halves.{halves-exact, halves-ordered}
+use Rattle.ways.specs.Records.{written}
 use Rattle.ways.specs.Sizes.{recordSize}
 use Rattle.question.specs.declared.Question.{Question}
 use Rattle.question.specs.Asked.{askedFault}
@@ -24,16 +27,16 @@ use Rattle.portion.proofs.Starting.{asked-proper}
 use Rattle.portion.proofs.Known.{rows, rises, fresh-all, passes}
 use Rattle.join.specs.Lists.{halvesFor, chainsFor, halvesFault, joinFault}
 use Rattle.join.specs.Answers.{Joins}
-use Rattle.demands.specs.Paths.{Reached, SimplePath}
-use Rattle.demands.specs.Demands.{Lists, DemandTwo}
+use Rattle.demands.specs.Paths.{Reached, SimplePath, HalfPath}
+use Rattle.demands.specs.Demands.{Lists, JoinRoute, DemandTwo}
 
 module _ (file : List ℕ) (q : Question) where
-  reached-linked : (c : List ℕ) → Reached file q c → Linked (next file q) c
+  pub reached-linked : (c : List ℕ) → Reached file q c → Linked (next file q) c
   reached-linked [] r = tt
   reached-linked (p ∷ []) r = tt
   reached-linked (p ∷ v ∷ c) r = (led-next file q p (r .0), reached-linked (v ∷ c) (r .1))
 
-  linked-reached : (c : List ℕ) → Linked (next file q) c → Reached file q c
+  pub linked-reached : (c : List ℕ) → Linked (next file q) c → Reached file q c
   linked-reached [] l = tt
   linked-reached (p ∷ []) l = tt
   linked-reached (p ∷ v ∷ c) l = (next-led file q p (l .0), linked-reached (v ∷ c) (l .1))
@@ -75,22 +78,43 @@ module _ (file : List ℕ) (q : Question) where
         record { says = p .answers ∙ rw (passing, fresh-all file q); cells = p .cells ∙ rw (passing, fresh-all file q) }
 
     join-lists : {working working′ out out′ : List ℕ} {answer : Answer} → recordSize ≤ length out → halvesFault recordSize (length working) (halvesFor file q) ≡ sound
-        → Joins file q working working′ out out′ answer → Lists (chainsFor file q) out out′ answer
+        → Joins file q working working′ out out′ answer → Lists (chainsFor file q) out out′ answer × (working′ ≡ written recordSize (halvesFor file q) working)
     join-lists {working} {out = out} h fit j =
         let passing : joinFault file q working out ≡ sound = rw (asked, le-leb recordSize (length out) h) fit in
-        record { says = j .answers ∙ rw passing; cells = j .cells ∙ rw passing }
+        (record { says = j .answers ∙ rw passing; cells = j .cells ∙ rw passing }, j .shelf ∙ rw passing)
+
+    -- only persons of the file have links
+    inside : (p v : ℕ) → v ∈ next file q p → p < personCount file
+    inside p v m = next-led file q p m .inside
+
+    is-half : (h : List ℕ) → h ∈ halvesFor file q ↔ HalfPath file q h
+    is-half h =
+        let both = halves-exact (next file q) (personCount file) (q .from) (q .to) differ inside (q .hops) h in (
+          (λ m. let half = both .0 m in record { few = half .1; different = half .0 .once; last = half .0 .last; apart = half .0 .apart; reached = linked-reached h (half .0 .linked) }),
+          (λ p. both .1 (record { last = p .last; linked = reached-linked h (p .reached); once = p .different; apart = p .apart; exactly = refl }, p .few)),
+        )
+
+    to-alone : HalfPath file q (q .to ∷ [])
+    to-alone = record { few = omega arith; different = (λ m. List·Memᴰ·not-nil m, tt); last = refl; apart = λ m. differ (List·Memᴰ·eq-of-singleton m); reached = tt }
+
+    join-route : JoinRoute file q
+    join-route =
+        record {
+          same = byHops-iff (next file q) (q .from) (q .to) (q .hops);
+          once = byHops-once (next file q) (q .from) (q .to) (rows file q asked) (q .hops);
+          shortestFirst = byHops-ordered (next file q) (q .from) (q .to) (rows file q asked) (q .hops);
+          halfChains = is-half;
+          toAlone = is-half (q .to ∷ []) .1 to-alone;
+          halvesInOrder = halves-ordered (next file q) (personCount file) (q .from) (q .to) differ inside (q .hops);
+          lists = join-lists;
+        }
 
     pub demand-two : DemandTwo file q
     demand-two =
         record {
-          every = λ c s. is-chain c .1 (path-chain c s);
-          nothingElse = λ c m. chain-path c (is-chain c .0 m);
-          once = once-each (next file q) (rows file q asked) (q .from) (q .to) (q .hops);
-          inOrder = rises file q asked;
+          holdsEvery = λ c s. is-chain c .1 (path-chain c s);
+          onceInOrder = (once-each (next file q) (rows file q asked) (q .from) (q .to) (q .hops), rises file q asked, λ c m. chain-path c (is-chain c .0 m));
+          joinRoute = join-route;
           noOther = λ L r same. determined (next file q) (rows file q asked) (q .from) (q .to) (q .hops) differ L r (λ c. (λ m. path-chain c (same c .0 m), λ h. same c .1 (chain-path c h)));
           portion = portion-lists;
-          joinsTheSame = byHops-iff (next file q) (q .from) (q .to) (q .hops);
-          joinsOnce = byHops-once (next file q) (q .from) (q .to) (rows file q asked) (q .hops);
-          shortestFirst = byHops-ordered (next file q) (q .from) (q .to) (rows file q asked) (q .hops);
-          join = join-lists;
         }

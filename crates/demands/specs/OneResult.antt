@@ -1,6 +1,6 @@
 -- One result only: what came in fixes the answer and every lent cell, for refusals as for listings. Definitions only.
--- "Every public operation carries a contract that determines the answer and the final contents of each lent cell. A proof shows that
--- any two results allowed by it are equal." What is lent for reading only, the file and a bookmark, no operation can change.
+-- "Every public operation carries a contract that determines the answer and the final contents of each lent cell, for refusals as for
+-- listings. A proof shows that any two results allowed by it are equal".
 use mathlib.Core.Path.{_≡_}
 use mathlib.Core.List.{List}
 use Prim.Native.Nat.{ℕ}

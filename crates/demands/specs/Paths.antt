@@ -1,8 +1,10 @@
--- A simple path over admitted links, in the customer's words and with no word of graphs. Definitions only.
+-- Paths over admitted links, in the customer's words and with no word of graphs. Definitions only.
+use mathlib.Core.Path.{_≡_}
 use mathlib.Core.List.{List, [], _∷_}
-use Prim.Native.Nat.{ℕ, _+_, _≤_}
+use Prim.Native.Nat.{ℕ, _+_, _/_, _≤_}
 use lib.ListN.{length}
-use Rattle.ways.specs.Chain.{First, Last, Distinct}
+use Rattle.ways.specs.Graph.{_∈_}
+use Rattle.ways.specs.Chain.{First, Last, Distinct, hops}
 use Rattle.question.specs.declared.Question.{Question}
 use Rattle.question.specs.Admission.{AdmittedLink}
 
@@ -20,3 +22,25 @@ pub record SimplePath (file : List ℕ) (q : Question) (c : List ℕ) : Type 0 w
   pub first : First (q .from) c
   pub last : Last (q .to) c
   pub reached : Reached file q c
+
+-- "half chains are the simple admitted sequences of 0 to k/2 hops (rounded down) ending at To and not visiting From"
+pub record HalfPath (file : List ℕ) (q : Question) (h : List ℕ) : Type 0 where
+  pub few : hops h ≤ q .hops / 2
+  pub different : Distinct h
+  pub last : Last (q .to) h
+  pub apart : ¬ (q .from ∈ h)
+  pub reached : Reached file q h
+
+-- "from any person p to To over admitted links": a way may pass a person twice, and From too
+pub record WayFrom (file : List ℕ) (q : Question) (p : ℕ) (w : List ℕ) : Type 0 where
+  pub first : First p w
+  pub last : Last (q .to) w
+  pub reached : Reached file q w
+
+-- "Fewest hops: from any person p to To over admitted links, at most k, else k+1. To itself answers 0."
+-- up to k it is the hops of some way; no way of at most k hops has fewer, so there is none at all where it is k+1
+pub record FewestFrom (file : List ℕ) (q : Question) (p d : ℕ) : Type 0 where
+  pub most : d ≤ q .hops + 1
+  pub way : d ≤ q .hops → (w : List ℕ) × WayFrom file q p w × (hops w ≡ d)
+  pub least : (w : List ℕ) → WayFrom file q p w → hops w ≤ q .hops → d ≤ hops w
+  pub toItself : p ≡ q .to → d ≡ 0

@@ -1,12 +1,13 @@
 -- Calls one after another: each starts behind the last record that was handed over, so the listing comes end to end, and then nothing more.
 use mathlib.Core.Path.{_≡_, refl, sym, ap, subst, _∙_}
+use mathlib.Core.Logic.{_≢_}
 use mathlib.Core.Bool.{Bool, true}
 use mathlib.Core.List.{List, [], _∷_}
 use Prim.Native.Nat.{ℕ, _≤_}
 use native.Mathlib.Omega.{arith}
 use lib.ListN.{length}
 use lib.Seq.{take-nil}
-use borrow.Author.Tests.{le-leb}
+use borrow.Author.Tests.{le-leb, ne-eqb}
 use Rattle.linkfile.specs.Verdict.{Fault, sound, fault}
 use Rattle.ways.specs.Graph.{_∈_}
 use Rattle.ways.specs.Portions.{after, lastOr}
@@ -15,13 +16,13 @@ use Rattle.ways.specs.Sizes.{recordSize}
 use Rattle.ways.proofs.Portions.{lastOr-in, ended-iff}
 use Rattle.question.specs.declared.Question.{Question}
 use Rattle.question.specs.Asked.{askedFault}
-use Rattle.portion.specs.Listing.{Start, fresh, startsAfter, startFault, listingFor, portionFault, portionFor}
+use Rattle.portion.specs.Listing.{Start, bookmarked, startsAfter, startFault, listingFor, portionFault, portionFor}
 use Rattle.portion.specs.Answers.{Answer, listed, refused, answerSaid}
 use Rattle.portion.specs.EndToEnd as portions
-use Rattle.portion.specs.EndToEnd.{Call, countOf, startBehind, LaidEndToEnd}
+use Rattle.portion.specs.EndToEnd.{Call, countOf, startBehind, LaidEndToEnd, Resumed}
 use Rattle.portion.specs.declared.Answer as code
 use Rattle.portion.proofs.Known.{portion-in, rises, passes, kept}
-use Rattle.portion.proofs.LaidEnd.{laid-end-to-end}
+use Rattle.portion.proofs.LaidEnd.{laid-end-to-end, laid-behind}
 use Rattle.held.specs.declared.Held.{Held}
 use Rattle.held.specs.Holding.{startOf, heldAfter, heldFor, MovedOn}
 use Rattle.held.specs.Calls.{Run, rests, moves, refusal, Quiet}
@@ -66,11 +67,18 @@ follows {file} {held} (moves {between = between} {calls = calls} m h r) =
     portions.call (m .portioned) h (subst (λ (start : Start). portions.Run file (held .question) start calls) (starts-behind m) asked)
 follows {file} (refusal {calls = calls} m said r) = subst (λ (h : Held). portions.Run file (h .question) (startOf h) calls) (refused-stays m said) (follows r)
 
+-- from wherever the held listing starts, its calls are a run of portions
+follows-from : {file : List ℕ} {held held′ : Held} {calls : List Call} {start : Start} → startOf held ≡ start → Run file held calls held′ → portions.Run file (held .question) start calls
+follows-from {file} {held} {calls = calls} begins run = subst (λ (start : Start). portions.Run file (held .question) start calls) begins (follows run)
+
 -- Demand 3 over held listings: calls one after another on one file, the first not yet started, whatever the rooms
 pub held-end-to-end : {file : List ℕ} {held held′ : Held} {calls : List Call} → askedFault file (held .question) ≡ sound → held .started ≡ 0 → Run file held calls held′ → LaidEndToEnd file (held .question) calls
-held-end-to-end {file} {held} {calls = calls} asked unstarted run =
-    let begins : startOf held ≡ fresh = rw unstarted in
-    laid-end-to-end file (held .question) asked (subst (λ (start : Start). portions.Run file (held .question) start calls) begins (follows run))
+held-end-to-end {file} {held} asked unstarted run = laid-end-to-end file (held .question) asked (follows-from (rw unstarted) run)
+
+-- and where it was started before: from the chain behind its record on
+pub held-resumed : {file : List ℕ} {held held′ : Held} {calls : List Call} → askedFault file (held .question) ≡ sound → held .started ≢ 0 → startFault (listingFor file (held .question)) (bookmarked (held .«record»)) ≡ sound
+    → Run file held calls held′ → Resumed file (held .question) (held .«record») calls
+held-resumed {file} {held} asked started passing run = laid-behind file (held .question) asked (held .«record») passing (follows-from (rw (ne-eqb (held .started) 0 started)) run)
 
 -- a held listing behind which no chain of the listing comes
 record AtEnd (file : List ℕ) (held : Held) : Type 0 where

@@ -1,5 +1,5 @@
 -- The public operation: refused in order, or the join over the graph of file and question.
-use mathlib.Core.Path.{_≡_, refl, sym, ap, subst, _∙_, fun-ext}
+use mathlib.Core.Path.{_≡_, sym, ap, subst, _∙_, fun-ext}
 use mathlib.Core.List.{List, List·Memᴰ·not-nil}
 use mathlib.Core.Logic.{⊎-elim}
 use Prim.Native.Nat.{ℕ, suc, _≤_, _<_}
@@ -22,6 +22,7 @@ use Rattle.ways.proofs.Halves.{halves-exact, halves-ordered, halves-determined}
 use Rattle.compact.specs.Compact.{persons, graphOf}
 use Rattle.question.specs.declared.Question.{Question}
 use Rattle.question.specs.Asked.{askedFault, questionFault, Asks}
+use Rattle.linkfile.proofs.Faults.{first-both}
 use Rattle.question.specs.Filled.{Filled, Fillable}
 use Rattle.question.proofs.Refused.{asked-passed}
 use Rattle.question.proofs.Leads.{next-none}
@@ -29,10 +30,6 @@ use Rattle.join.specs.Lists.{halvesFor, chainsFor, roomFault, halvesFaul
 use Rattle.join.specs.Answers.{Answered, Joins, Passed, halvesIn, JoinsIn}
 use Rattle.portion.specs.declared.Answer as code
 use Rattle.half_chains.proofs.Standing.{low-persons}
-
-first-sound : (a b : Fault) → firstOf a b ≡ sound → a ≡ sound
-first-sound sound b e = refl
-first-sound (fault number place) b e = e
 
 -- a refusal: nothing has changed
 refused-first : (file : List ℕ) (q : Question) (working out : List ℕ) {number place : ℕ} → joinFault file q working out ≡ fault number place → Joins file q working working out out (code.the-variants.Refused number place)
@@ -58,7 +55,7 @@ module _ (file : List ℕ) (q : Question) {answer : look.Fault} (asks : Asks fil
     pub join-fill : {counts : Counts} → Laid file counts → Fillable file counts (replicate (suc persons) 0) (replicate 4096 0)
     join-fill laid = record {
       laid = laid;
-      faultless = first-sound (fileFault file) (questionFault (personCount file) q) none;
+      faultless = first-both (fileFault file) (questionFault (personCount file) q) none .0;
       rows = length-replicate {A = ℕ} (suc persons) 0;
       links = length-replicate {A = ℕ} 4096 0;
       people = λ i h. ⊎-elim (λ l. omega (arith, getD-replicate {A = ℕ} 4096 i 0 0 l)) (λ l. omega (arith, List·getD-eq-default (replicate {A = ℕ} 4096 0) 0 {n = i} (rw (length-replicate {A = ℕ} 4096 0) l))) (lt-or-le i 4096);

@@ -32,6 +32,11 @@ module _ {look : ℕ → Fault} {whole : Fault} {at end : ℕ} (l : Looking look
   unfolding firstAmong
   look-ends h = let e : end - at ≡ 0 = omega arith in sym (rw e at (l .rest))
 
+-- no fault in the first of two looks that finds one is none in either
+pub first-both : (a b : Fault) → firstOf a b ≡ sound → (a ≡ sound) × (b ≡ sound)
+first-both sound b e = (refl, e)
+first-both (fault number place) b e = let z : _≡_ {A = ℕ} 0 1 = cc in absurd (omega arith)
+
 -- no fault among several is none at each
 pub first-none : (look : ℕ → Fault) (from count at : ℕ) → firstAmong look from count ≡ sound → from ≤ at → at < from + count → look at ≡ sound
 unfolding firstAmong

@@ -1,72 +1,97 @@
--- A file is refused with one of the numbers 1 to 9.
-use mathlib.Core.Path.{_≡_, sym, ap, subst, _∙_}
+-- A file is refused with one of the numbers 1 to 9, and its place is a number of 32 bits.
+use mathlib.Core.Path.{_≡_, refl, sym, ap, subst, _∙_}
 use mathlib.Core.Bool.{Bool, true, false}
 use mathlib.Core.List.{List}
-use Prim.Native.Nat.{ℕ, zero, suc, _+_, _-_, _≤_}
+use Prim.Native.Nat.{ℕ, zero, suc, _+_, _-_, _^_, _≤_, _<_}
 use native.Mathlib.Omega.{arith}
 use lib.Dec.{leb}
 use Rattle.linkfile.specs.Numbers.{within}
-use Rattle.linkfile.specs.Format.{marked, countsFit, laidOut, personCount, feedCount, row, meaning, day, kind}
+use Rattle.linkfile.specs.Format.{marked, countsFit, laidOut, personCount, linkCount, feedCount, row, meaning, day, kind}
 use Rattle.linkfile.specs.Kinds.{classOf, known}
 use Rattle.linkfile.specs.Verdict.{Fault, sound, fault, unless, firstOf, firstAmong, Numbered}
 use Rattle.linkfile.specs.Checked.{lastDay, feedRuled, feedFault, rowRuled, rowFault, linkRuled, linkFault, ownedFault, tablesFault, fileFault}
+use Rattle.linkfile.specs.Inside.{Laid}
 use Rattle.linkfile.specs.Answers.{verdictSaid, Checks}
 use Rattle.linkfile.specs.declared.Verdict as code
+use Rattle.linkfile.specs.declared.Counts.{Counts}
+use Rattle.linkfile.proofs.Counted.{counts-fit, laid-out-long}
+use Rattle.linkfile.proofs.Tabled.{rows-below}
 use Rattle.linkfile.proofs.Passed.{refused-verdict}
 
-pub numbered-unless : (last : ℕ) (rule : Bool) (number place : ℕ) (after : Fault) → (1 ≤ number) × (number ≤ last) → Numbered last after → Numbered last (unless rule number place after)
-numbered-unless last true number place after h rest = rest
-numbered-unless last false number place after h rest = h
+-- a rule, and what is looked at where it holds
+numbered-where : (last : ℕ) (rule : Bool) (number place : ℕ) (after : Fault) → Numbered last (fault number place) → (rule ≡ true → Numbered last after) → Numbered last (unless rule number place after)
+numbered-where last true number place after h rest = rest refl
+numbered-where last false number place after h rest = h
+
+pub numbered-unless : (last : ℕ) (rule : Bool) (number place : ℕ) (after : Fault) → Numbered last (fault number place) → Numbered last after → Numbered last (unless rule number place after)
+numbered-unless last rule number place after h rest = numbered-where last rule number place after h (λ holds. rest)
 
 pub numbered-more : (a b : ℕ) → a ≤ b → (f : Fault) → Numbered a f → Numbered b f
 numbered-more a b h sound i = tt
-numbered-more a b h (fault number place) i = (i .0, omega (arith, i .1))
+numbered-more a b h (fault number place) i = (i .0, omega (arith, i .1), i .2)
+
+-- a look, and the next one where it finds nothing
+numbered-then : (last : ℕ) (a b : Fault) → Numbered last a → (a ≡ sound → Numbered last b) → Numbered last (firstOf a b)
+numbered-then last sound b h i = i refl
+numbered-then last (fault number place) b h i = h
 
 pub numbered-first : (last : ℕ) (a b : Fault) → Numbered last a → Numbered last b → Numbered last (firstOf a b)
-numbered-first last sound b h i = i
-numbered-first last (fault number place) b h i = h
+numbered-first last a b h i = numbered-then last a b h (λ none. i)
 
-pub numbered-among : (last : ℕ) (look : ℕ → Fault) (from count : ℕ) → ((at : ℕ) → Numbered last (look at)) → Numbered last (firstAmong look from count)
+numbered-among : (last : ℕ) (look : ℕ → Fault) (from count : ℕ) → ((at : ℕ) → at < from + count → Numbered last (look at)) → Numbered last (firstAmong look from count)
 unfolding firstAmong
 numbered-among last look from zero h = tt
-numbered-among last look from (suc count) h = numbered-first last (look from) (firstAmong look (suc from) count) (h from) (numbered-among last look (suc from) count h)
+numbered-among last look from (suc count) h =
+    numbered-first last (look from) (firstAmong look (suc from) count) (h from (omega arith)) (numbered-among last look (suc from) count (λ at below. h at (omega arith)))
 
-feed-numbered : (file : List ℕ) (feed : ℕ) → Numbered 9 (feedFault file feed)
+feed-numbered : (file : List ℕ) (feed : ℕ) → feed < 2 ^ 32 → Numbered 9 (feedFault file feed)
 unfolding feedFault
-feed-numbered file feed =
-    numbered-unless 9 (feedRuled file feed) 4 feed (unless (within 1 2 (meaning file feed)) 5 feed sound) (omega arith, omega arith)
-    (numbered-unless 9 (within 1 2 (meaning file feed)) 5 feed sound (omega arith, omega arith) tt)
+feed-numbered file feed h =
+    numbered-unless 9 (feedRuled file feed) 4 feed (unless (within 1 2 (meaning file feed)) 5 feed sound) (omega arith, omega arith, h)
+    (numbered-unless 9 (within 1 2 (meaning file feed)) 5 feed sound (omega arith, omega arith, h) tt)
 
-row-numbered : (file : List ℕ) (entry : ℕ) → Numbered 9 (rowFault file entry)
+row-numbered : (file : List ℕ) (entry : ℕ) → entry < 2 ^ 32 → Numbered 9 (rowFault file entry)
 unfolding rowFault
-row-numbered file entry = numbered-unless 9 (rowRuled file entry) 6 entry sound (omega arith, omega arith) tt
+row-numbered file entry h = numbered-unless 9 (rowRuled file entry) 6 entry sound (omega arith, omega arith, h) tt
 
-link-numbered : (file : List ℕ) (owner link : ℕ) → Numbered 9 (linkFault file owner link)
+link-numbered : (file : List ℕ) (owner link : ℕ) → link < 2 ^ 32 → Numbered 9 (linkFault file owner link)
 unfolding linkFault
-link-numbered file owner link =
-    numbered-unless 9 (linkRuled file owner link) 7 link (unless (known (classOf (kind file link))) 8 link (unless (leb (day file link) lastDay) 9 link sound)) (omega arith, omega arith)
-    (numbered-unless 9 (known (classOf (kind file link))) 8 link (unless (leb (day file link) lastDay) 9 link sound) (omega arith, omega arith)
-    (numbered-unless 9 (leb (day file link) lastDay) 9 link sound (omega arith, omega arith) tt))
+link-numbered file owner link h =
+    numbered-unless 9 (linkRuled file owner link) 7 link (unless (known (classOf (kind file link))) 8 link (unless (leb (day file link) lastDay) 9 link sound)) (omega arith, omega arith, h)
+    (numbered-unless 9 (known (classOf (kind file link))) 8 link (unless (leb (day file link) lastDay) 9 link sound) (omega arith, omega arith, h)
+    (numbered-unless 9 (leb (day file link) lastDay) 9 link sound (omega arith, omega arith, h) tt))
 
-owned-numbered : (file : List ℕ) (owner : ℕ) → Numbered 9 (ownedFault file owner)
-unfolding ownedFault
-owned-numbered file owner = numbered-among 9 (linkFault file owner) (row file owner) (row file (owner + 1) - row file owner) (link-numbered file owner)
+module _ {file : List ℕ} {counts : Counts} (laid : Laid file counts) where
+  -- once the row table has passed, no row reaches past the links
+  owned-numbered : firstAmong (rowFault file) 0 (personCount file + 1) ≡ sound → (owner : ℕ) → owner < personCount file → Numbered 9 (ownedFault file owner)
+  unfolding ownedFault
+  owned-numbered rows owner h =
+      let below = rows-below (record { laid = laid; rows = rows }) in
+      let low = below owner (omega (arith, laid .persons)) in
+      let high = below (owner + 1) (omega (arith, laid .persons)) in
+      numbered-among 9 (linkFault file owner) (row file owner) (row file (owner + 1) - row file owner) (λ link inside. link-numbered file owner link (omega (arith, laid .manyLinks)))
 
-tables-numbered : (file : List ℕ) → Numbered 9 (tablesFault file)
-unfolding tablesFault
-tables-numbered file =
-    numbered-first 9 (firstAmong (feedFault file) 0 (feedCount file)) (firstOf (firstAmong (rowFault file) 0 (personCount file + 1)) (firstAmong (ownedFault file) 0 (personCount file)))
-    (numbered-among 9 (feedFault file) 0 (feedCount file) (feed-numbered file))
-    (numbered-first 9 (firstAmong (rowFault file) 0 (personCount file + 1)) (firstAmong (ownedFault file) 0 (personCount file))
-    (numbered-among 9 (rowFault file) 0 (personCount file + 1) (row-numbered file))
-    (numbered-among 9 (ownedFault file) 0 (personCount file) (owned-numbered file)))
+  tables-numbered : Numbered 9 (tablesFault file)
+  unfolding tablesFault
+  tables-numbered =
+      numbered-first 9 (firstAmong (feedFault file) 0 (feedCount file)) (firstOf (firstAmong (rowFault file) 0 (personCount file + 1)) (firstAmong (ownedFault file) 0 (personCount file)))
+      (numbered-among 9 (feedFault file) 0 (feedCount file) (λ feed h. feed-numbered file feed (omega (arith, laid .feeds, laid .manyFeeds))))
+      (numbered-then 9 (firstAmong (rowFault file) 0 (personCount file + 1)) (firstAmong (ownedFault file) 0 (personCount file))
+      (numbered-among 9 (rowFault file) 0 (personCount file + 1) (λ entry h. row-numbered file entry (omega (arith, laid .persons, laid .manyPersons))))
+      (λ rows. numbered-among 9 (ownedFault file) 0 (personCount file) (λ owner h. owned-numbered rows owner (omega arith))))
+
+-- the counts that the tables are looked at with
+file-laid : (file : List ℕ) → countsFit file ≡ true → laidOut file ≡ true → Laid file (record { persons = personCount file; links = linkCount file; feeds = feedCount file })
+file-laid file fits lays =
+    let fit = counts-fit file fits in
+    record { persons = refl; links = refl; feeds = refl; some = fit .some; manyPersons = fit .persons; manyLinks = fit .links; manyFeeds = fit .feeds; whole = laid-out-long file lays }
 
 pub file-numbered : (file : List ℕ) → Numbered 9 (fileFault file)
 unfolding fileFault
 file-numbered file =
-    numbered-unless 9 (marked file) 1 0 (unless (countsFit file) 2 0 (unless (laidOut file) 3 0 (tablesFault file))) (omega arith, omega arith)
-    (numbered-unless 9 (countsFit file) 2 0 (unless (laidOut file) 3 0 (tablesFault file)) (omega arith, omega arith)
-    (numbered-unless 9 (laidOut file) 3 0 (tablesFault file) (omega arith, omega arith) (tables-numbered file)))
+    numbered-unless 9 (marked file) 1 0 (unless (countsFit file) 2 0 (unless (laidOut file) 3 0 (tablesFault file))) (omega arith, omega arith, omega arith)
+    (numbered-where 9 (countsFit file) 2 0 (unless (laidOut file) 3 0 (tablesFault file)) (omega arith, omega arith, omega arith)
+    (λ fits. numbered-where 9 (laidOut file) 3 0 (tablesFault file) (omega arith, omega arith, omega arith) (λ lays. tables-numbered (file-laid file fits lays))))
 
 -- the same by the answer of `check`
 pub refused-number : (file : List ℕ) {answer : code.Verdict} {number place : ℕ} → Checks file answer → answer ≡ code.the-variants.Refused number place → number ≤ 9

@@ -11,6 +11,7 @@ use Rattle.linkfile.specs.Inside.{Laid, Rowed}
 use Rattle.linkfile.specs.Answers.{verdictSaid, Checks}
 use Rattle.linkfile.specs.declared.Verdict as code
 use Rattle.linkfile.specs.declared.Counts.{Counts}
+use Rattle.linkfile.proofs.Faults.{first-both}
 use Rattle.linkfile.proofs.Counted.{Fitting, counts-fit}
 use Rattle.linkfile.proofs.Tabled.{rows-keep, rows-below}
 
@@ -76,13 +77,13 @@ pub record Tables (file : List ℕ) : Type 0 where
 
 pub tables-sound : (file : List ℕ) → tablesFault file ≡ sound → Tables file
 unfolding tablesFault
-tables-sound file e = go (firstAmong (feedFault file) 0 (feedCount file)) (firstAmong (rowFault file) 0 (personCount file + 1)) refl refl e
-  where
-    go : (a b : Fault) → firstAmong (feedFault file) 0 (feedCount file) ≡ a → firstAmong (rowFault file) 0 (personCount file + 1) ≡ b
-        → firstOf a (firstOf b (firstAmong (ownedFault file) 0 (personCount file))) ≡ sound → Tables file
-    go sound sound a b e = record { feeds = a; rows = b; links = e }
-    go sound (fault number place) a b e = let z : _≡_ {A = ℕ} 0 1 = cc in absurd (omega arith)
-    go (fault number place) b a d e = let z : _≡_ {A = ℕ} 0 1 = cc in absurd (omega arith)
+tables-sound file e =
+    let feeds = firstAmong (feedFault file) 0 (feedCount file) in
+    let rows = firstAmong (rowFault file) 0 (personCount file + 1) in
+    let links = firstAmong (ownedFault file) 0 (personCount file) in
+    let first = first-both feeds (firstOf rows links) e in
+    let second = first-both rows links (first .1) in
+    record { feeds = first .0; rows = second .0; links = second .1 }
 
 pub passed-rowed : {file : List ℕ} {counts : Counts} {n m f : ℕ} → Laid file counts → Passed file n m f → Rowed file counts
 passed-rowed {file} laid p = record { laid = laid; rows = tables-sound file (p .tables) .rows }

@@ -1,6 +1,6 @@
 -- The verdict on a file, and the faults that it is made of. Definitions only.
 use mathlib.Core.Bool.{Bool, true, false}
-use Prim.Native.Nat.{ℕ, zero, suc, _≤_}
+use Prim.Native.Nat.{ℕ, zero, suc, _^_, _≤_, _<_}
 use Rattle.linkfile.specs.declared.Fault as code
 
 -- a fault has the number of its refusal and its place
@@ -28,10 +28,10 @@ unfoldable pub firstAmong : (ℕ → Fault) → ℕ → ℕ → Fault
 firstAmong look from zero = sound
 firstAmong look from (suc count) = firstOf (look from) (firstAmong look (suc from) count)
 
--- a fault, if there is one, has one of the numbers from 1 to the last
+-- a fault, if there is one, has one of the numbers from 1 to the last, and a place of 32 bits
 abbrev pub Numbered : ℕ → Fault → Type 0
 Numbered last sound = Unit {0}
-Numbered last (fault number place) = (1 ≤ number) × (number ≤ last)
+Numbered last (fault number place) = (1 ≤ number) × (number ≤ last) × (place < 2 ^ 32)
 
 -- for every list of bytes: passed with n, m, f, or refused with number and place
 pub data Verdict : Type 0 where

@@ -52,7 +52,7 @@ portion-small {file} {q} {start} {out} p h = subst Small (sym (p .answers)) (go 
   where
     go : (f : Fault) → Numbered 17 f → Small (portion.answerFor f (length (portionFor file q start out)) (endedFor file q start out))
     go sound i = omega (arith, length-take (roomOf recordSize (length out)) (after (startsAfter start) (listingFor file q)))
-    go (fault r t) i = omega (arith, i .1)
+    go (fault r t) i = (omega (arith, i .1), i .2)
 
 -- and so has the join's
 pub join-small : {file : List ℕ} {q : Question} {working working′ out out′ : List ℕ} {answer : portion-code.Answer} → Joins file q working working′ out out′ answer → length out < 2 ^ 62 → Small (portion.answerSaid answer)
@@ -60,4 +60,4 @@ join-small {file} {q} {working} {out = out} p h = subst Small (sym (p .answers))
   where
     go : (f : Fault) → Numbered 18 f → Small (portion.answerFor f (length (lists.firstOnes (lists.chainsFor file q) out)) (lists.allFit (lists.chainsFor file q) out))
     go sound i = omega (arith, length-take (roomOf recordSize (length out)) (lists.chainsFor file q))
-    go (fault r t) i = omega (arith, i .1)
+    go (fault r t) i = (omega (arith, i .1), i .2)

@@ -45,13 +45,13 @@ listedNumber (portion.refused number place) = refusalNumber number place
 -- an answer whose numbers have room in it
 abbrev pub Small : portion.Answer → Type 0
 Small (portion.listed count ended) = count < 2 ^ 62
-Small (portion.refused number place) = number ≤ 18
+Small (portion.refused number place) = (number ≤ 18) × (place < 2 ^ 32)
 
 -- what each function answers, and the lent cells at exit: the promise of the operation behind it, its answer as a number
 abbrev pub CheckNumber : List ℕ → ℕ → Type 0
 CheckNumber file number = number ≡ verdictNumber (checked file)
 
--- "length in bytes of the row view (0 where it is empty)"
+-- the length in bytes of the row view, 0 where it is empty
 abbrev pub RowNumber : List ℕ → ℕ → ℕ → Type 0
 RowNumber file person number = number ≡ length (rowView file person)
 
@@ -61,9 +61,11 @@ FewestNumber file q person number = number ≡ hopsNumber (distance.answered fil
 pub record PortionNumber (file : List ℕ) (q : Question) (start : Start) (out out′ : List ℕ) (number : ℕ) : Type 0 where
   pub answer : code.Answer
   pub portioned : portion.Portioned file q start out out′ answer
+  pub small : Small (portion.answerSaid answer)
   pub answers : number ≡ listedNumber (portion.answerSaid answer)
 
 pub record JoinNumber (file : List ℕ) (q : Question) (working working′ out out′ : List ℕ) (number : ℕ) : Type 0 where
   pub answer : code.Answer
   pub joins : Joins file q working working′ out out′ answer
+  pub small : Small (portion.answerSaid answer)
   pub answers : number ≡ listedNumber (portion.answerSaid answer)

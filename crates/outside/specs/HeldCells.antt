@@ -8,7 +8,7 @@ use Rattle.portion.specs.Answers.{answerSaid}
 use Rattle.portion.specs.declared.Answer as code
 use Rattle.held.specs.declared.Held.{Held}
 use Rattle.held.specs.Holding.{MovedOn}
-use Rattle.outside.specs.Encoded.{asking, listedNumber}
+use Rattle.outside.specs.Encoded.{asking, Small, listedNumber}
 
 -- the ten cells of a record, one by one
 abbrev pub tenFrom : List ℕ → ℕ → ℕ → ℕ → ℕ → ℕ → ℕ → ℕ → ℕ → ℕ → ℕ → List ℕ
@@ -31,10 +31,11 @@ pub record MovedCells (file cells cells′ out out′ : List ℕ) (number : ℕ)
   pub answer : code.Answer
   pub held : Held
   pub moves : MovedOn file (heldOf cells) held out out′ answer
+  pub small : Small (answerSaid answer)
   pub answers : number ≡ listedNumber (answerSaid answer)
   pub keeps : cells′ ≡ heldCells cells held
 
--- "kin_held with other than 18 cells answers 2^63 before anything else is looked at, and changes nothing"
+-- with other than 18 cells it answers 2^63 before anything else is looked at, and changes nothing
 pub record HeldNumber (file cells cells′ out out′ : List ℕ) (number : ℕ) : Type 0 where
   pub wrongSize : (length cells ≡ 18 → ⊥) → (number ≡ 2 ^ 63) × (cells′ ≡ cells) × (out′ ≡ out)
   pub moved : length cells ≡ 18 → MovedCells file cells cells′ out out′ number

@@ -1,15 +1,16 @@
 -- Demand 3 for the operation itself: any run of calls gives the listing end to end.
-use mathlib.Core.Path.{_≡_, refl, sym, ap, ap₂, _∙_}
+use mathlib.Core.Path.{_≡_, refl, sym, ap, ap₂, subst, _∙_}
+use mathlib.Core.Logic.{_≢_}
 use mathlib.Core.List.{List, [], _∷_, _++_}
-use Prim.Native.Nat.{ℕ, _+_, _*_, _-_}
+use Prim.Native.Nat.{ℕ, zero, suc, _*_, _≤_}
 use native.Mathlib.Omega.{arith}
 use lib.ListN.{length, take, drop}
-use lib.Seq.{take-at, take-add, drop-drop, drop-append-add}
+use lib.Seq.{take-at, take-add}
 use Rattle.linkfile.specs.Verdict.{sound}
 use Rattle.linkfile.proofs.Linked.{unless-none}
 use Rattle.ways.specs.Graph.{_∈_}
 use Rattle.ways.specs.Portions.{after, lastOr}
-use Rattle.ways.specs.Records.{chainOf, cellsOf, written, roomOf, isRecordIn}
+use Rattle.ways.specs.Records.{chainOf, cellsOf, written, isRecordIn}
 use Rattle.ways.specs.Sizes.{recordSize}
 use Rattle.ways.proofs.Portions.{after-portion, ended-iff}
 use Rattle.ways.proofs.After.{after-part}
@@ -18,7 +19,7 @@ use Rattle.question.specs.declared.Question.{Question}
 use Rattle.question.specs.Asked.{askedFault}
 use Rattle.portion.specs.Listing.{listingFor, Start, fresh, bookmarked, startsAfter, startFault, portionFault, portionFor, endedFor}
 use Rattle.portion.specs.Answers.{Answer, listed, answerSaid, Portioned}
-use Rattle.portion.specs.EndToEnd.{Call, countOf, saysEnded, startBehind, Run, done, call, allWrote, allRoom, EndsRight, LaidEndToEnd, Resumed}
+use Rattle.portion.specs.EndToEnd.{Call, countOf, saysEnded, startBehind, Run, done, call, allRoom, roomIn, Laid, LaidEndToEnd, Resumed}
 use Rattle.portion.specs.declared.Answer as code
 use Rattle.portion.proofs.Known.{portion-in, rises, fits, fresh-all, passes, last-kept}
 
@@ -45,32 +46,37 @@ module _ (file : List ℕ) (q : Question) (asked : askedFault file q ≡ sound) 
   behind start [] rest s inside = record { mark = refl; passing = s }
   behind start (c ∷ P) rest s inside = let k = last-kept file q asked (startsAfter start) (c ∷ P) rest (omega arith) inside in record { mark = k .mark; passing = k .passing }
 
-  -- n chains were handed over before the run starts
-  run-laid : (calls : List Call) (start : Start) (n : ℕ) → startFault (listingFor file q) start ≡ sound → after (startsAfter start) (listingFor file q) ≡ drop n (listingFor file q) → Run file q start calls
-      → (allWrote calls ≡ cellsOf recordSize (take (allRoom calls) (drop n (listingFor file q)))) × EndsRight (listingFor file q) n calls
+  -- with room for one, one is taken where there is one
+  some-taken : (r : ℕ) (left : List (List ℕ)) → 1 ≤ r → left ≢ [] → 1 ≤ length (take r left)
+  some-taken zero left h n = absurd (omega arith)
+  some-taken (suc r) [] h n = absurd (n refl)
+  some-taken (suc r) (c ∷ left) h n = omega arith
+
+  -- what comes after the start is left when the run starts
+  run-laid : (calls : List Call) (start : Start) → startFault (listingFor file q) start ≡ sound → Run file q start calls → Laid (after (startsAfter start) (listingFor file q)) calls
   unfolding cellsOf written
-  run-laid [] start n s at done = (refl, tt)
-  run-laid (c ∷ calls) start n s at (call p h r) =
-      let room = roomOf recordSize (length (c .out)) in
+  run-laid [] start s done = record { cells = refl; brings = tt; ends = tt }
+  run-laid (c ∷ calls) start s (call p h r) =
+      let L = listingFor file q in
+      let left = after (startsAfter start) L in
       let P = portionFor file q start (c .out) in
       let none = passes file q asked start (c .out) s h in
       let is = said p none in
       let on = behind start P (drop (length P * recordSize) (c .out)) s (λ d m. portion-in file q start (c .out) m) in
-      let left : after (lastOr (startsAfter start) P) (listingFor file q) ≡ drop (n + room) (listingFor file q) = after-portion (listingFor file q) (rises file q asked) (startsAfter start) room ∙ ap (drop room) at ∙ drop-drop room n (listingFor file q) in
-      let rest = run-laid calls (startBehind start (length P) (cellsOf recordSize P ++ drop (length P * recordSize) (c .out))) (n + room) (on .passing) (ap (λ (b : List ℕ). after b (listingFor file q)) (on .mark) ∙ left) (rw (is, exits p none) at r) in
-      let whole : take room (drop n (listingFor file q)) ++ take (allRoom calls) (drop (n + room) (listingFor file q)) ≡ take (room + allRoom calls) (drop n (listingFor file q)) = rw (take-add room (allRoom calls) (drop n (listingFor file q)), drop-drop room n (listingFor file q)) in
-      let ended = ended-iff (listingFor file q) (rises file q asked) room (startsAfter start) in (
-        ap₂ _++_ (wrote-cells p none ∙ ap (λ (l : List (List ℕ)). cellsOf recordSize (take room l)) at) (rest .0)
-            ∙ sym (cellsOf-append recordSize (take room (drop n (listingFor file q))) (take (allRoom calls) (drop (n + room) (listingFor file q))))
-            ∙ ap (cellsOf recordSize) whole,
-        ((λ e. sym left ∙ ended .0 (sym (ap saysEnded is) ∙ e), λ e. ap saysEnded is ∙ ended .1 (left ∙ e)), rest .1),
-      )
+      let next = startBehind start (length P) (cellsOf recordSize P ++ drop (length P * recordSize) (c .out)) in
+      let follows : after (lastOr (startsAfter start) P) L ≡ drop (roomIn c) left = after-portion L (rises file q asked) (startsAfter start) (roomIn c) in
+      let rest = subst (λ (l : List (List ℕ)). Laid l calls) (ap (λ (b : List ℕ). after b L) (on .mark) ∙ follows) (run-laid calls next (on .passing) (rw (is, exits p none) at r)) in
+      let ended = ended-iff L (rises file q asked) (roomIn c) (startsAfter start) in
+      let one : 1 ≤ roomIn c = omega (arith, h) in
+      record {
+        cells = ap₂ _++_ (wrote-cells p none) (rest .cells) ∙ sym (cellsOf-append recordSize P (take (allRoom calls) (drop (roomIn c) left))) ∙ ap (cellsOf recordSize) (sym (take-add (roomIn c) (allRoom calls) left));
+        brings = (ap countOf is, (λ some. rw (is) (some-taken (roomIn c) left one some)), rest .brings);
+        ends = ((λ e. sym follows ∙ ended .0 (sym (ap saysEnded is) ∙ e), λ e. ap saysEnded is ∙ ended .1 (follows ∙ e)), rest .ends);
+      }
 
 -- any run of calls from a fresh start
 pub laid-end-to-end : (file : List ℕ) (q : Question) → askedFault file q ≡ sound → {calls : List Call} → Run file q fresh calls → LaidEndToEnd file q calls
-laid-end-to-end file q asked {calls} r =
-    let laid = run-laid file q asked calls fresh 0 refl (fresh-all file q) r in
-    record { cells = laid .0; ends = laid .1 }
+laid-end-to-end file q asked {calls} r = subst (λ (l : List (List ℕ)). Laid l calls) (fresh-all file q) (run-laid file q asked calls fresh refl r)
 
 -- and from a bookmark that passes
 pub laid-behind : (file : List ℕ) (q : Question) → askedFault file q ≡ sound → (bookmark : List ℕ) → startFault (listingFor file q) (bookmarked bookmark) ≡ sound → {calls : List Call}
@@ -79,6 +85,4 @@ laid-behind file q asked bookmark passing {calls} r =
     let L = listingFor file q in
     let chain = isRecordIn-iff recordSize L bookmark (fits file q asked) .0 (unless-none (isRecordIn recordSize L bookmark) 17 0 passing .0) in
     let part = after-part (chainOf bookmark) L (rises file q asked) (chain .1) in
-    let at : after (chainOf bookmark) L ≡ drop (length (part .0) + 1) L = sym (drop-append-add (part .0) (chainOf bookmark ∷ after (chainOf bookmark) L) 1) ∙ ap (drop (length (part .0) + 1)) (sym (part .1)) in
-    let laid = run-laid file q asked calls (bookmarked bookmark) (length (part .0) + 1) passing at r in
-    record { before = part .0; behind = after (chainOf bookmark) L; stands = part .1; laid = record { cells = laid .0; ends = laid .1 } }
+    record { before = part .0; behind = after (chainOf bookmark) L; stands = part .1; laid = run-laid file q asked calls (bookmarked bookmark) passing r }

@@ -17,8 +17,8 @@ pub portion-numbered : (file : List ℕ) (q : Question) (start : Start) (out : L
 unfolding portionFault
 portion-numbered file q start out =
     numbered-first 17 (askedFault file q) (unless (leb recordSize (length out)) 16 0 (startFault (listingFor file q) start)) (numbered-more 15 17 (omega arith) (askedFault file q) (asked-numbered file q))
-    (numbered-unless 17 (leb recordSize (length out)) 16 0 (startFault (listingFor file q) start) (omega arith, omega arith) (starts start))
+    (numbered-unless 17 (leb recordSize (length out)) 16 0 (startFault (listingFor file q) start) (omega arith, omega arith, omega arith) (starts start))
   where
     starts : (s : Start) → Numbered 17 (startFault (listingFor file q) s)
     starts fresh = tt
-    starts (bookmarked bookmark) = numbered-unless 17 (isRecordIn recordSize (listingFor file q) bookmark) 17 0 sound (omega arith, omega arith) tt
+    starts (bookmarked bookmark) = numbered-unless 17 (isRecordIn recordSize (listingFor file q) bookmark) 17 0 sound (omega arith, omega arith, omega arith) tt

@@ -8,8 +8,9 @@ use lib.ListN.{length}
 use lib.Dec.{eqb}
 use borrow.Author.Tests.{le-leb, lt-leb, ne-eqb}
 use Rattle.linkfile.specs.Format.{personCount}
-use Rattle.linkfile.specs.Verdict.{Fault, sound, fault, unless, firstOf}
+use Rattle.linkfile.specs.Verdict.{sound, fault, unless}
 use Rattle.linkfile.specs.Checked.{fileFault}
+use Rattle.linkfile.proofs.Faults.{first-both}
 use Rattle.linkfile.proofs.Passed.{sound-rules, passed-fits}
 use Rattle.ways.specs.Graph.{Graph}
 use Rattle.ways.specs.Listing.{listing}
@@ -32,16 +33,12 @@ use Rattle.portion.specs.declared.Answer as code
 use Rattle.portion.proofs.Bookmarks.{bookmark-is}
 
 -- a file and a question that have passed
-asked-both : (a b : Fault) → firstOf a b ≡ sound → (a ≡ sound) × (b ≡ sound)
-asked-both sound b e = (refl, e)
-asked-both (fault number place) b e = let z : _≡_ {A = ℕ} 0 1 = cc in absurd (omega arith)
-
 module _ (file : List ℕ) (q : Question) (e : askedFault file q ≡ sound) where
   pub asked-file : fileFault file ≡ sound
-  asked-file = asked-both (fileFault file) (questionFault (personCount file) q) e .0
+  asked-file = first-both (fileFault file) (questionFault (personCount file) q) e .0
 
   pub asked-proper : Proper (personCount file) q
-  asked-proper = question-proper (personCount file) q (asked-both (fileFault file) (questionFault (personCount file) q) e .1)
+  asked-proper = question-proper (personCount file) q (first-both (fileFault file) (questionFault (personCount file) q) e .1)
 
   pub asked-few : personCount file ≤ persons
   asked-few = passed-fits (sound-rules file asked-file) .persons

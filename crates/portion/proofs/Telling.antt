@@ -1,12 +1,14 @@
 -- What the answer of a portion tells of it: which case of its promise holds, which chains it has, and where the last record stands.
 use mathlib.Core.Path.{_≡_, refl, sym, ap, subst, _∙_}
-use mathlib.Core.Bool.{Bool, true, false}
+use mathlib.Core.Bool.{Bool}
 use mathlib.Core.List.{List, _∷_}
 use Prim.Native.Nat.{ℕ, _+_, _-_, _*_, _≤_, _<_}
 use native.Mathlib.Omega.{arith}
 use lib.ListN.{length, drop, length-take}
 use lib.Dec.{leb}
-use Rattle.linkfile.specs.Verdict.{Fault, sound, fault, unless, firstOf}
+use Rattle.linkfile.specs.Verdict.{Fault, sound, fault, unless}
+use Rattle.linkfile.proofs.Faults.{first-both}
+use Rattle.linkfile.proofs.Linked.{unless-none}
 use Rattle.ways.specs.Graph.{_∈_}
 use Rattle.ways.specs.Portions.{after, lastOr}
 use Rattle.ways.specs.Records.{recordOf, Fits, roomOf, written}
@@ -25,12 +27,9 @@ module _ (file : List ℕ) (q : Question) where
   -- a portion that is not refused has a file, a question and a start that pass
   pub sound-asked : (start : Start) (out : List ℕ) → portionFault file q start out ≡ sound → (askedFault file q ≡ sound) × (startFault (listingFor file q) start ≡ sound)
   unfolding portionFault
-  sound-asked start out e = go (askedFault file q) (leb recordSize (length out)) (startFault (listingFor file q) start) e
-    where
-      go : (a : Fault) (t : Bool) (b : Fault) → firstOf a (unless t 16 0 b) ≡ sound → (a ≡ sound) × (b ≡ sound)
-      go sound true b e = (refl, e)
-      go sound false b e = let z : _≡_ {A = ℕ} 0 1 = cc in absurd (omega arith)
-      go (fault number place) t b e = let z : _≡_ {A = ℕ} 0 1 = cc in absurd (omega arith)
+  sound-asked start out e =
+      let both = first-both (askedFault file q) (unless (leb recordSize (length out)) 16 0 (startFault (listingFor file q) start)) e in
+      (both .0, unless-none (leb recordSize (length out)) 16 0 (both .1) .1)
 
 -- what the answer tells of the portion
 module _ {file : List ℕ} {q : Question} {start : Start} {out out′ : List ℕ} {answer : code.Answer} (p : Portioned file q start out out′ answer) where

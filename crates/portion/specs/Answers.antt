@@ -26,7 +26,7 @@ abbrev pub answerFor : Fault → ℕ → Bool → Answer
 answerFor sound count ended = listed count ended
 answerFor (fault number place) count ended = refused number place
 
--- "It writes the first r chains after the bookmark, or all if fewer, from cell 0. Other output cells are unchanged."
+-- "It writes the first r chains after the bookmark, or all if fewer, from cell 0"; "Other output cells are unchanged."
 -- "All lent memory stays as it came" where this is a fault.
 abbrev pub cellsFor : Fault → List (List ℕ) → List ℕ → List ℕ
 cellsFor sound chains out = written recordSize chains out

@@ -1,6 +1,6 @@
 -- Portions laid end to end: a run of calls, each from the last record written. Definitions only.
 use mathlib.Core.Path.{_≡_}
-use mathlib.Core.Logic.{_↔_}
+use mathlib.Core.Logic.{_≢_, _↔_}
 use mathlib.Core.Bool.{Bool, true, false}
 use mathlib.Core.List.{List, [], _∷_, _++_}
 use Prim.Native.Nat.{ℕ, zero, suc, _+_, _*_, _-_, _≤_}
@@ -17,6 +17,10 @@ pub record Call : Type 0 where
   pub out : List ℕ
   pub exit : List ℕ
   pub answer : code.Answer
+
+-- how many chains a call has room for
+abbrev pub roomIn : Call → ℕ
+roomIn call = roomOf recordSize (length (call .out))
 
 -- how many chains the answer says were written, and whether it says ended
 abbrev pub countOf : Answer → ℕ
@@ -39,7 +43,8 @@ abbrev pub startBehind : Start → ℕ → List ℕ → Start
 startBehind start zero cells = start
 startBehind start (suc count) cells = bookmarked (lastRecord (suc count) cells)
 
--- a run of calls on one file and question, from a start on, each with room for a record at least
+-- "Each starts after the last chain handed over, or fresh if none has been, and has room for at least one."
+-- a run of calls on one file and question, from a start on
 pub data Run (file : List ℕ) (q : Question) : Start → List Call → Type 0 where
   done : {start : Start} → Run file q start []
   call : {start : Start} {c : Call} {calls : List Call} → Portioned file q start (c .out) (c .exit) (c .answer) → recordSize ≤ length (c .out)
@@ -52,27 +57,34 @@ allWrote (c ∷ calls) = wrote c ++ allWrote calls
 
 abbrev pub allRoom : List Call → ℕ
 allRoom [] = 0
-allRoom (c ∷ calls) = roomOf recordSize (length (c .out)) + allRoom calls
+allRoom (c ∷ calls) = roomIn c + allRoom calls
 
--- behind n chains: each call says ended exactly where no chain of the listing follows
-abbrev pub EndsRight : List (List ℕ) → ℕ → List Call → Type 0
-EndsRight L n [] = Unit {0}
-EndsRight L n (c ∷ calls) =
-    ((saysEnded (answerSaid (c .answer)) ≡ true) ↔ (drop (n + roomOf recordSize (length (c .out))) L ≡ [])) × EndsRight L (n + roomOf recordSize (length (c .out))) calls
+-- "Every portion brings a chain until the listing is exhausted": of every call, while these chains are left, it answers as many as it has
+-- room for, or all if fewer, and that is at least one while any is left
+abbrev pub Brings : List (List ℕ) → List Call → Type 0
+Brings left [] = Unit {0}
+Brings left (c ∷ calls) =
+    (countOf (answerSaid (c .answer)) ≡ length (take (roomIn c) left)) × (left ≢ [] → 1 ≤ countOf (answerSaid (c .answer))) × Brings (drop (roomIn c) left) calls
 
--- from behind n chains on: the records laid end to end are those of the chains that come then, as many as the rooms add up to, or all; and
--- each call says ended exactly where no chain follows
-pub record LaidFrom (file : List ℕ) (q : Question) (n : ℕ) (calls : List Call) : Type 0 where
-  pub cells : allWrote calls ≡ cellsOf recordSize (take (allRoom calls) (drop n (listingFor file q)))
-  pub ends : EndsRight (listingFor file q) n calls
+-- "and one says "ended" exactly when no chain follows it": the same of every call
+abbrev pub EndsRight : List (List ℕ) → List Call → Type 0
+EndsRight left [] = Unit {0}
+EndsRight left (c ∷ calls) = ((saysEnded (answerSaid (c .answer)) ≡ true) ↔ (drop (roomIn c) left ≡ [])) × EndsRight (drop (roomIn c) left) calls
 
--- demand 3: the same from the first chain on
+-- calls one after another, where these chains are left at the start: the records laid end to end are those of the first of them, as many as
+-- the rooms add up to, or of all; and what each call says
+pub record Laid (left : List (List ℕ)) (calls : List Call) : Type 0 where
+  pub cells : allWrote calls ≡ cellsOf recordSize (take (allRoom calls) left)
+  pub brings : Brings left calls
+  pub ends : EndsRight left calls
+
+-- demand 3: from a fresh start the whole listing is left
 abbrev pub LaidEndToEnd : List ℕ → Question → List Call → Type 0
-LaidEndToEnd file q calls = LaidFrom file q 0 calls
+LaidEndToEnd file q calls = Laid (listingFor file q) calls
 
--- and after a bookmark, whoever kept it: from the chain behind its own on
+-- and after a bookmark, whoever kept it: what stands behind its own chain
 pub record Resumed (file : List ℕ) (q : Question) (bookmark : List ℕ) (calls : List Call) : Type 0 where
   pub before : List (List ℕ)
   pub behind : List (List ℕ)
   pub stands : listingFor file q ≡ before ++ chainOf bookmark ∷ behind
-  pub laid : LaidFrom file q (length before + 1) calls
+  pub laid : Laid behind calls

@@ -16,9 +16,9 @@ use Rattle.question.specs.Asked.{daysFit, restFault, questionFault, pers
 rest-numbered : (q : Question) → Numbered 15 (restFault q)
 unfolding restFault
 rest-numbered q =
-    numbered-unless 15 (not (eqb (q .from) (q .to))) 11 0 twelve (omega arith, omega arith)
-    (numbered-unless 15 (within 1 mostHops (q .hops)) 12 0 thirteen (omega arith, omega arith)
-    (numbered-unless 15 (within 1 15 (q .classes)) 13 0 fourteen (omega arith, omega arith) (numbered-unless 15 (within 1 2 (q .meaning)) 14 0 fifteen (omega arith, omega arith) (numbered-unless 15 (daysFit q) 15 0 sound (omega arith, omega arith) tt))))
+    numbered-unless 15 (not (eqb (q .from) (q .to))) 11 0 twelve (omega arith, omega arith, omega arith)
+    (numbered-unless 15 (within 1 mostHops (q .hops)) 12 0 thirteen (omega arith, omega arith, omega arith)
+    (numbered-unless 15 (within 1 15 (q .classes)) 13 0 fourteen (omega arith, omega arith, omega arith) (numbered-unless 15 (within 1 2 (q .meaning)) 14 0 fifteen (omega arith, omega arith, omega arith) (numbered-unless 15 (daysFit q) 15 0 sound (omega arith, omega arith, omega arith) tt))))
   where
     fifteen : Fault
     fifteen = unless (daysFit q) 15 0 sound
@@ -35,7 +35,7 @@ rest-numbered q =
 -- From, To, then whatever is looked at after them
 ends-numbered : (n : ℕ) (q : Question) (after : Fault) → Numbered 15 after → Numbered 15 (unless (ltb (q .from) n) 10 0 (unless (ltb (q .to) n) 10 1 after))
 ends-numbered n q after h =
-    numbered-unless 15 (ltb (q .from) n) 10 0 (unless (ltb (q .to) n) 10 1 after) (omega arith, omega arith) (numbered-unless 15 (ltb (q .to) n) 10 1 after (omega arith, omega arith) h)
+    numbered-unless 15 (ltb (q .from) n) 10 0 (unless (ltb (q .to) n) 10 1 after) (omega arith, omega arith, omega arith) (numbered-unless 15 (ltb (q .to) n) 10 1 after (omega arith, omega arith, omega arith) h)
 
 pub asked-numbered : (file : List ℕ) (q : Question) → Numbered 15 (askedFault file q)
 unfolding questionFault
@@ -46,4 +46,4 @@ pub person-numbered : (file : List ℕ) (q : Question) (person : ℕ) → Number
 unfolding personFault
 person-numbered file q person =
     numbered-first 15 (fileFault file) (personFault (personCount file) q person) (numbered-more 9 15 (omega arith) (fileFault file) (file-numbered file))
-    (ends-numbered (personCount file) q (unless (ltb person (personCount file)) 10 2 (restFault q)) (numbered-unless 15 (ltb person (personCount file)) 10 2 (restFault q) (omega arith, omega arith) (rest-numbered q)))
+    (ends-numbered (personCount file) q (unless (ltb person (personCount file)) 10 2 (restFault q)) (numbered-unless 15 (ltb person (personCount file)) 10 2 (restFault q) (omega arith, omega arith, omega arith) (rest-numbered q)))

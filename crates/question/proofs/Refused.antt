@@ -8,9 +8,10 @@ use native.Mathlib.Omega.{arith}
 use borrow.Author.Tests.{ltb-true, eqb-false, not-true}
 use Rattle.linkfile.specs.Numbers.{within}
 use Rattle.linkfile.specs.Format.{personCount, linkCount, feedCount}
-use Rattle.linkfile.specs.Verdict.{Fault, sound, fault, unless, firstOf, faultSaid}
+use Rattle.linkfile.specs.Verdict.{Fault, sound, unless, firstOf, faultSaid}
 use Rattle.linkfile.specs.Checked.{fileFault}
 use Rattle.linkfile.specs.declared.Fault as code
+use Rattle.linkfile.proofs.Faults.{first-both}
 use Rattle.linkfile.proofs.Counted.{within-facts}
 use Rattle.linkfile.proofs.Passed.{Passed, sound-rules}
 use Rattle.linkfile.proofs.Linked.{unless-none}
@@ -67,12 +68,9 @@ person-proper n q person e =
 -- nothing found: the file passed, and so did the question
 pub asked-passed : {file : List ℕ} {q : Question} {answer : code.Fault} → Asks file q answer → answer ≡ code.the-variants.Sound
     → Passed file (personCount file) (linkCount file) (feedCount file) × Proper (personCount file) q
-asked-passed {file} {q} asks is = go (fileFault file) refl (sym asks ∙ ap faultSaid is)
-  where
-    go : (found : Fault) → fileFault file ≡ found → firstOf found (questionFault (personCount file) q) ≡ sound
-        → Passed file (personCount file) (linkCount file) (feedCount file) × Proper (personCount file) q
-    go sound f e = (sound-rules file f, question-proper (personCount file) q e)
-    go (fault number place) f e = let z : _≡_ {A = ℕ} 0 1 = cc in absurd (omega arith)
+asked-passed {file} {q} asks is =
+    let both = first-both (fileFault file) (questionFault (personCount file) q) (sym asks ∙ ap faultSaid is) in
+    (sound-rules file (both .0), question-proper (personCount file) q (both .1))
 
 -- one result only: any two answers that the promise of `asked` allows are equal
 fault-said : (a b : code.Fault) → faultSaid a ≡ faultSaid b → a ≡ b

@@ -12,7 +12,7 @@ use Rattle.compact.specs.Compact.{persons, links as mostLinks, graphOf, Compact
 use Rattle.question.specs.Admission.{next}
 use Rattle.question.specs.declared.Question.{Question}
 
--- "Once a file and a question have passed": read back, row starts and targets are `next`
+-- once a file and a question have passed: read back, row starts and targets are `next`
 pub record Filled (file : List ℕ) (q : Question) (starts targets : List ℕ) : Type 0 where
   pub graph : (person : ℕ) → graphOf starts targets person ≡ next file q person
   pub compact : Compact starts targets

@@ -149,6 +149,11 @@ pub linked-reach : (g : Graph) (t p : ℕ) (w : List ℕ) → Linked g (p ∷ w)
 linked-reach g t p [] l e = here e
 linked-reach g t p (q ∷ w) l e = link (l .0) (linked-reach g t q w (l .1) e)
 
+-- and where the end is in reach, there is a walk of no more hops
+pub reach-linked : {g : Graph} {t h p : ℕ} → Reach g t h p → (w : List ℕ) × Linked g (p ∷ w) × Last t (p ∷ w) × (length w ≤ h)
+reach-linked (here e) = ([], tt, e, omega arith)
+reach-linked (link {v = v} m r) = let walk = reach-linked r in (v ∷ walk .0, (m, walk .1), walk .2, omega (arith, walk .3))
+
 -- somebody on a chain is reached from s, and reaches t, in no more hops together than the chain has
 pub chain-through : {g : Graph} {s t k u : ℕ} {c : List ℕ} → Chain g s t k c → u ∈ c → (a : ℕ) × (b : ℕ) × Reach g u a s × Reach g t b u × (a + b ≤ k)
 chain-through {g} {s} {t} {k} {u} {c} h m = let q = mem-split m in go (q .0) (q .1) (subst (λ d. Chain g s t k d) (q .2) h)

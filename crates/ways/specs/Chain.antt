@@ -33,7 +33,7 @@ abbrev pub hops : List ℕ → ℕ
 hops [] = 0
 hops (p ∷ c) = length c
 
--- c is a chain from s to t of at most k hops; "2 to k+1 persons" are 1 to k hops
+-- c is a chain from s to t of at most k hops; "2 to k+1" persons are 1 to k hops
 pub record Chain (g : Graph) (s t k : ℕ) (c : List ℕ) : Type 0 where
   pub first : First s c
   pub last : Last t c

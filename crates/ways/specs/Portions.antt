@@ -1,5 +1,5 @@
 -- Listing in portions: each starts after the last chain that was handed over. Definitions only.
--- "It writes the first r chains after the bookmark, or all if fewer, and answers how many, and whether the listing has ended."
+-- "It writes the first r chains after the bookmark, or all if fewer, from cell 0, and answers how many, and whether the listing has ended."
 use mathlib.Core.Bool.{Bool, cond}
 use mathlib.Core.List.{List, [], _∷_, _++_}
 use Prim.Native.Nat.{ℕ, _+_}

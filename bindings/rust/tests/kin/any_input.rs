@@ -2,7 +2,8 @@
 
 use crate::SIX_PERSONS;
 use kin::{
-    check, fewest_hops, join, links_in, portion, row_view, Answer, HeldListing, Question, Start,
+    check, fewest_hops, join, links_in, portion, row_view, Classes, DateMeaning, HeldListing,
+    Listed, Question, Refused, Start,
 };
 
 /// Seeded, so that a failure can be seen again.
@@ -39,8 +40,8 @@ impl Random {
 
     fn question(&mut self) -> Question {
         Question {
-            classes: self.number(16),
-            meaning: self.number(2),
+            classes: Classes::from_number(self.number(16)),
+            meaning: DateMeaning::from_number(self.number(2)),
             last_day: self.number(600).wrapping_add(700_000),
             ..Question::between(self.number(6), self.number(6), self.number(9))
         }
@@ -48,13 +49,13 @@ impl Random {
 }
 
 /// Holds an answer to the file's verdict and to the cells that were lent, all 9 before the call.
-fn hold(answer: Answer, file: &[u8], output: &[u32]) {
+fn hold(answer: Result<Listed, Refused>, file: &[u8], output: &[u32]) {
     match answer {
-        Answer::Listed { count, .. } => {
+        Ok(Listed { count, .. }) => {
             assert!(check(file).is_ok());
             assert!(output[10 * count..].iter().all(|&cell| cell == 9));
         }
-        Answer::Refused(refused) => {
+        Err(refused) => {
             assert!((1..=18).contains(&refused.number), "{refused}");
             assert!(output.iter().all(|&cell| cell == 9));
             let of_the_file = check(file).is_err();
@@ -87,7 +88,7 @@ fn any_file_and_any_question_get_an_answer() {
         let mut output = vec![9; 20];
         let answer = join(&file, question, &mut working, &mut output);
         hold(answer, &file, &output);
-        if matches!(answer, Answer::Refused(_)) {
+        if answer.is_err() {
             assert!(working.iter().all(|&cell| cell == 9));
         }
     }
@@ -103,7 +104,7 @@ fn any_held_cells_get_an_answer() {
         let mut output = [9; 25];
         let answer = held.move_on(&file, &mut output);
         hold(answer, &file, &output);
-        if matches!(answer, Answer::Refused(_)) {
+        if answer.is_err() {
             assert_eq!(*held.cells(), cells);
         }
         let _ = (held.last(), held.question());

@@ -1,7 +1,7 @@
 //! Listings in portions: the room a portion has shows in nothing, and a listing can be put away and taken up.
 
-use crate::{the_question, SIX_PERSONS};
-use kin::{Answer, Chain, Chains, HeldListing, Question, Refused};
+use crate::{listed, refused, the_question, SIX_PERSONS};
+use kin::{Chain, Chains, HeldListing, Question, Refused};
 
 /// A file of so many persons, each linked to each by an undated link.
 fn everybody_linked(persons: u32) -> Vec<u8> {
@@ -69,13 +69,7 @@ fn every_room_gives_the_same_listing() {
 #[test]
 fn no_room_is_refused() {
     let mut chains = Chains::onward(SIX_PERSONS, HeldListing::new(the_question()), 0);
-    assert_eq!(
-        chains.next(),
-        Some(Err(Refused {
-            number: 16,
-            place: 0
-        }))
-    );
+    assert_eq!(chains.next(), Some(Err(refused(16, 0))));
     assert_eq!(chains.next(), None);
     assert_eq!(chains.next(), None);
 }
@@ -100,20 +94,14 @@ fn a_held_listing_keeps_its_question_and_its_last_chain() {
     let mut output = [0; 10];
     for (place, ended) in [false, false, true].into_iter().enumerate() {
         let answer = held.move_on(SIX_PERSONS, &mut output);
-        assert_eq!(answer, Answer::Listed { count: 1, ended }, "chain {place}");
+        assert_eq!(answer, Ok(listed(1, ended)), "chain {place}");
         assert_eq!(held.question(), the_question());
         assert_eq!(held.last(), Chain::from_record(&output));
         assert_eq!(HeldListing::from_cells(*held.cells()), held);
     }
     let before = held;
     let over = held.move_on(SIX_PERSONS, &mut output);
-    assert_eq!(
-        over,
-        Answer::Listed {
-            count: 0,
-            ended: true
-        }
-    );
+    assert_eq!(over, Ok(listed(0, true)));
     assert_eq!(held, before);
 }
 
@@ -123,13 +111,7 @@ fn a_refusal_changes_nothing_in_a_held_listing() {
     let mut held = HeldListing::after(the_question(), &no_chain);
     let before = held;
     let answer = held.move_on(SIX_PERSONS, &mut [0; 10]);
-    assert_eq!(
-        answer,
-        Answer::Refused(Refused {
-            number: 17,
-            place: 0
-        })
-    );
+    assert_eq!(answer, Err(refused(17, 0)));
     assert_eq!(held, before);
 }
 

@@ -1,6 +1,9 @@
 //! What a refusal says of itself is what docs/REFUSALS.md says.
 
-use kin::Refused;
+use std::error::Error;
+
+use crate::{refused, the_question, SIX_PERSONS};
+use kin::{HeldListing, Question, Refused, Start};
 
 const DOCUMENT: &str = include_str!("../../../../docs/REFUSALS.md");
 
@@ -38,8 +41,26 @@ fn a_number_without_a_line_has_no_meaning() {
     }
 }
 
+/// All chains that a file tells of a question, each way of listing them handing a refusal on.
+fn listed_in_every_way(file: &[u8], question: Question) -> Result<[usize; 4], Box<dyn Error>> {
+    let (mut output, mut working) = ([0; 40], [0; 50]);
+    Ok([
+        kin::portion(file, question, Start::Fresh, &mut output)?.count,
+        HeldListing::new(question).move_on(file, &mut output)?.count,
+        kin::join(file, question, &mut working, &mut output)?.count,
+        kin::chains(file, question)
+            .collect::<Result<Vec<_>, _>>()?
+            .len(),
+    ])
+}
+
 #[test]
-fn a_refusal_is_an_error() {
-    let error: Box<dyn std::error::Error> = Box::new(kin::check(&[]).unwrap_err());
+fn a_refusal_is_an_error_that_is_handed_on() {
+    assert_eq!(
+        listed_in_every_way(SIX_PERSONS, the_question()).unwrap(),
+        [3; 4]
+    );
+    let error = listed_in_every_way(&[], the_question()).unwrap_err();
+    assert_eq!(error.downcast_ref(), Some(&refused(1, 0)));
     assert!(error.to_string().starts_with("refused 1 at 0: The file"));
 }

@@ -1,7 +1,10 @@
 //! The customer's cases on the six-person file.
 
-use crate::{listed, the_question, SIX_PERSONS};
-use kin::{chains, check, fewest_hops, join, portion, Answer, Question, Refused, Start, LAST_DAY};
+use crate::{listed, persons_in, refused, the_question, SIX_PERSONS};
+use kin::{
+    chains, check, fewest_hops, join, portion, Classes, DateMeaning, Question, Refused, Start,
+    LAST_DAY,
+};
 
 const FIRST: &[u32] = &[0, 1, 3, 5];
 const SECOND: &[u32] = &[0, 2, 1, 3, 5];
@@ -16,10 +19,6 @@ fn all(question: Question) -> Result<Vec<Vec<u32>>, Refused> {
         .collect()
 }
 
-fn refused(number: u32, place: u32) -> Refused {
-    Refused { number, place }
-}
-
 #[test]
 fn listings() {
     let q = the_question();
@@ -27,8 +26,20 @@ fn listings() {
         (q, &[FIRST, SECOND, THIRD]),
         (Question { hops: 3, ..q }, &[FIRST, THIRD]),
         (Question { hops: 2, ..q }, &[]),
-        (Question { classes: 1, ..q }, &[FIRST]),
-        (Question { meaning: 2, ..q }, &[]),
+        (
+            Question {
+                classes: Classes::PARENT_CHILD_SIBLING,
+                ..q
+            },
+            &[FIRST],
+        ),
+        (
+            Question {
+                meaning: DateMeaning::REGISTRATION,
+                ..q
+            },
+            &[],
+        ),
         (
             Question {
                 first_day: 700_001,
@@ -61,25 +72,13 @@ fn listings() {
 fn a_portion_fills_its_room_and_leaves_the_other_cells() {
     let mut output = [UNTOUCHED; 29];
     let answer = portion(SIX_PERSONS, the_question(), Start::Fresh, &mut output);
-    assert_eq!(
-        answer,
-        Answer::Listed {
-            count: 2,
-            ended: false
-        }
-    );
-    assert_eq!(listed(answer, &output), [FIRST, SECOND]);
+    assert_eq!(answer, Ok(listed(2, false)));
+    assert_eq!(persons_in(&output, 2), [FIRST, SECOND]);
     assert_eq!(output[20..], [UNTOUCHED; 9]);
 
     let mut output = [UNTOUCHED; 30];
     let answer = portion(SIX_PERSONS, the_question(), Start::Fresh, &mut output);
-    assert_eq!(
-        answer,
-        Answer::Listed {
-            count: 3,
-            ended: true
-        }
-    );
+    assert_eq!(answer, Ok(listed(3, true)));
 }
 
 #[test]
@@ -92,14 +91,8 @@ fn a_portion_starts_after_its_bookmark() {
         Start::After(&bookmark),
         &mut output,
     );
-    assert_eq!(
-        answer,
-        Answer::Listed {
-            count: 1,
-            ended: true
-        }
-    );
-    assert_eq!(listed(answer, &output), [THIRD]);
+    assert_eq!(answer, Ok(listed(1, true)));
+    assert_eq!(persons_in(&output, 1), [THIRD]);
     assert_eq!(output[10..], [UNTOUCHED; 10]);
 }
 
@@ -118,7 +111,7 @@ fn bookmarks_that_are_no_chain_of_the_listing_are_refused() {
     for (question, bookmark) in cases {
         let mut output = [UNTOUCHED; 20];
         let answer = portion(SIX_PERSONS, question, Start::After(bookmark), &mut output);
-        assert_eq!(answer, Answer::Refused(refused(17, 0)), "{bookmark:?}");
+        assert_eq!(answer, Err(refused(17, 0)), "{bookmark:?}");
         assert_eq!(output, [UNTOUCHED; 20]);
     }
 }
@@ -132,9 +125,27 @@ fn questions_that_make_no_sense_are_refused() {
         (Question { to: 0, ..q }, refused(11, 0)),
         (Question { hops: 0, ..q }, refused(12, 0)),
         (Question { hops: 9, ..q }, refused(12, 0)),
-        (Question { classes: 0, ..q }, refused(13, 0)),
-        (Question { classes: 16, ..q }, refused(13, 0)),
-        (Question { meaning: 3, ..q }, refused(14, 0)),
+        (
+            Question {
+                classes: Classes::from_number(0),
+                ..q
+            },
+            refused(13, 0),
+        ),
+        (
+            Question {
+                classes: Classes::from_number(16),
+                ..q
+            },
+            refused(13, 0),
+        ),
+        (
+            Question {
+                meaning: DateMeaning::from_number(3),
+                ..q
+            },
+            refused(14, 0),
+        ),
         (Question { first_day: 0, ..q }, refused(15, 0)),
         (
             Question {
@@ -169,7 +180,7 @@ fn the_check_answers_counts_or_the_fault() {
 fn nine_output_cells_are_refused() {
     let mut output = [UNTOUCHED; 9];
     let answer = portion(SIX_PERSONS, the_question(), Start::Fresh, &mut output);
-    assert_eq!(answer, Answer::Refused(refused(16, 0)));
+    assert_eq!(answer, Err(refused(16, 0)));
     assert_eq!(output, [UNTOUCHED; 9]);
 }
 
@@ -190,21 +201,11 @@ fn fewest_hops_to_the_end_person() {
 fn the_join_lists_the_shortest_first_and_keeps_the_half_chains() {
     let (mut working, mut output) = ([UNTOUCHED; 55], [UNTOUCHED; 31]);
     let answer = join(SIX_PERSONS, the_question(), &mut working, &mut output);
-    assert_eq!(
-        answer,
-        Answer::Listed {
-            count: 3,
-            ended: true
-        }
-    );
-    assert_eq!(listed(answer, &output), [FIRST, THIRD, SECOND]);
+    assert_eq!(answer, Ok(listed(3, true)));
+    assert_eq!(persons_in(&output, 3), [FIRST, THIRD, SECOND]);
     assert_eq!(output[30], UNTOUCHED);
-    let halves = Answer::Listed {
-        count: 5,
-        ended: true,
-    };
     let right: [&[u32]; 5] = [&[5], &[3, 5], &[4, 5], &[1, 3, 5], &[2, 3, 5]];
-    assert_eq!(listed(halves, &working), right);
+    assert_eq!(persons_in(&working, 5), right);
     assert_eq!(working[50..], [UNTOUCHED; 5]);
 }
 
@@ -212,7 +213,7 @@ fn the_join_lists_the_shortest_first_and_keeps_the_half_chains() {
 fn too_few_working_cells_are_refused() {
     let (mut working, mut output) = ([UNTOUCHED; 49], [UNTOUCHED; 30]);
     let answer = join(SIX_PERSONS, the_question(), &mut working, &mut output);
-    assert_eq!(answer, Answer::Refused(refused(18, 0)));
+    assert_eq!(answer, Err(refused(18, 0)));
     assert_eq!(working, [UNTOUCHED; 49]);
     assert_eq!(output, [UNTOUCHED; 30]);
 }

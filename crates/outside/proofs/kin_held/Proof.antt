@@ -20,9 +20,18 @@ returns-2 c =
     let at-if1 = c .before .before .before .before .before .before .before .before .before .before .before .before .if1 in
     let at-moved = c .before .before .before .before .before .before .before .before .advanced in
     let at-held-of = c .before .before .before .before .before .before .before .before .before .before .held-of in
+    let at-start = c .before .before .before .before .before .before .before .before .before .before .before .before .before .before .before .before in
     record {
       wrongSize = λ n. absurd (n (at-if1 .left));
-      moved = λ e. record { answer = at-moved .result .answer; held = at-moved .result .held; moves = rw (at-held-of .ensures) at (at-moved .ensures); answers = c .listed-number .ensures; keeps = c .before .before .before .keep .ensures };
+      moved = λ e.
+          record {
+            answer = at-moved .result .answer;
+            held = at-moved .result .held;
+            moves = rw (at-held-of .ensures) at (at-moved .ensures);
+            small = portion-small (at-moved .ensures .portioned) (omega (arith, at-start .good));
+            answers = c .listed-number .ensures;
+            keeps = c .before .before .before .keep .ensures;
+          };
     }
 
 pub kin-held-spec : {M : Type 1} → statement M

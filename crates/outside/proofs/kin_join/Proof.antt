@@ -13,7 +13,8 @@ listed-number-requires c κs =
 returns : tie.Need-returns
 returns c =
     let at-join = c .before .before .before .before .before .join in
-    record { answer = at-join .result; joins = at-join .ensures; answers = c .listed-number .ensures }
+    let at-start = c .before .before .before .before .before .before .before .before .before .before .before in
+    record { answer = at-join .result; joins = at-join .ensures; small = join-small (at-join .ensures) (omega (arith, at-start .good)); answers = c .listed-number .ensures }
 
 pub kin-join-spec : {M : Type 1} → statement M
 kin-join-spec =

@@ -11,7 +11,8 @@ listed-number-requires c κs = portion-small (c .before .before .portion .ensure
 returns : tie.Need-returns
 returns c =
     let at-portion = c .before .before .before .portion in
-    record { answer = at-portion .result; portioned = at-portion .ensures; answers = c .listed-number .ensures }
+    let at-start = c .before .before .before .before .before .before .before .before in
+    record { answer = at-portion .result; portioned = at-portion .ensures; small = portion-small (at-portion .ensures) (omega (arith, at-start .good)); answers = c .listed-number .ensures }
 
 pub kin-portion-spec : {M : Type 1} → statement M
 kin-portion-spec = tie.close (tie.spec (λ c κs. search needs) listed-number-requires (λ c. search needs) returns)

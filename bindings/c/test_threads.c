@@ -1,0 +1,103 @@
+/*
+ * What include/kin.h says of stack and threads: threads ask everything at once, on the stack that it says they should have, lent the
+ * same file and cells of their own. Each has to be told what a caller alone is told. It is C, with POSIX threads.
+ */
+#include <pthread.h>
+#include <stdio.h>
+#include <string.h>
+
+#include "kin.h"
+
+/* From the first person to the last in at most eight hops, all classes, days of events, all days: the deepest search there is. */
+#define QUESTION 0, PERSONS - 1, 8, 15, 1, 1, 3652059
+
+enum {
+    THREADS = 4,
+    ROUNDS = 200,
+    STACK = 128 * 1024,
+    PERSONS = 10,
+    LINKS = PERSONS * (PERSONS - 1),
+    ROW_TABLE = 36,
+    LINK_TABLE = ROW_TABLE + 4 * (PERSONS + 1),
+    LENGTH = LINK_TABLE + 12 * LINKS,
+    OUTPUT = 40 * KIN_RECORD_CELLS,
+    /* To, and before it at most four of the others without From: 1 + 8 + 8 * 7 + 8 * 7 * 6 + 8 * 7 * 6 * 5 half chains. */
+    WORKING = 2081 * KIN_RECORD_CELLS
+};
+
+static uint8_t file[LENGTH];
+
+/* What a caller lends, and what it is told. */
+struct caller {
+    uint64_t answers[6];
+    uint32_t held[KIN_HELD_CELLS];
+    uint32_t portioned[OUTPUT], moved[OUTPUT], joined[OUTPUT], working[WORKING];
+};
+
+static struct caller alone, together[THREADS];
+
+static uint8_t *put(uint8_t *place, uint32_t number) {
+    for (int byte = 0; byte < 4; byte++) *place++ = (uint8_t)(number >> 8 * byte);
+    return place;
+}
+
+/* Everybody linked to everybody as a parent, undated, by one feed: archive 1, days of events. */
+static void make_file(void) {
+    static const uint32_t counts_and_offsets[] = {PERSONS, LINKS, 1, 32, ROW_TABLE, LINK_TABLE, LENGTH};
+    uint8_t *place = file + 4;
+    memcpy(file, "KLF1", 4);
+    for (int number = 0; number < 7; number++) place = put(place, counts_and_offsets[number]);
+    place = put(place, 0x10001);
+    for (uint32_t person = 0; person <= PERSONS; person++) place = put(place, person * (PERSONS - 1));
+    for (uint32_t link = 0; link < PERSONS * PERSONS; link++) {
+        if (link / PERSONS != link % PERSONS) place = put(put(put(place, link % PERSONS), 0), 0x10000);
+    }
+}
+
+static void ask_everything(struct caller *caller) {
+    const uint32_t held[KIN_HELD_CELLS] = {QUESTION, 0};
+    memset(caller, 0, sizeof *caller);
+    memcpy(caller->held, held, sizeof held);
+    caller->answers[0] = kin_check(file, LENGTH);
+    caller->answers[1] = kin_row(file, LENGTH, 1);
+    caller->answers[2] = kin_fewest(file, LENGTH, QUESTION, 1);
+    caller->answers[3] = kin_portion(file, LENGTH, QUESTION, 0, NULL, 0, caller->portioned, OUTPUT);
+    caller->answers[4] = kin_held(caller->held, KIN_HELD_CELLS, file, LENGTH, caller->moved, OUTPUT);
+    caller->answers[5] = kin_join(file, LENGTH, QUESTION, caller->working, WORKING, caller->joined, OUTPUT);
+}
+
+/* Answers NULL if every round told what a caller alone is told. */
+static void *ask_again_and_again(void *lent) {
+    struct caller *caller = (struct caller *)lent;
+    void *different = NULL;
+    for (int round = 0; round < ROUNDS; round++) {
+        ask_everything(caller);
+        if (memcmp(caller, &alone, sizeof alone) != 0) different = caller;
+    }
+    return different;
+}
+
+static int refused_alone(void) {
+    int refused = 0;
+    for (int answer = 0; answer < 6; answer++) refused += kin_refused(alone.answers[answer]);
+    return refused;
+}
+
+int main(void) {
+    pthread_t threads[THREADS];
+    pthread_attr_t with_stack;
+    int faults = 0;
+    make_file();
+    ask_everything(&alone);
+    if (refused_alone()) return 1;
+    if (pthread_attr_init(&with_stack) || pthread_attr_setstacksize(&with_stack, STACK)) return 1;
+    for (int thread = 0; thread < THREADS; thread++) {
+        if (pthread_create(&threads[thread], &with_stack, ask_again_and_again, &together[thread])) return 1;
+    }
+    for (int thread = 0; thread < THREADS; thread++) {
+        void *different;
+        if (pthread_join(threads[thread], &different) || different) faults++;
+    }
+    if (faults) printf("%d of %d threads were told something else\n", faults, THREADS);
+    return faults != 0;
+}

@@ -1,0 +1,55 @@
+"""Refusals, and what each means."""
+
+from __future__ import annotations
+
+# What each refusal means: the second column of docs/REFUSALS.md, from number 1 on. A test holds it to that.
+MEANINGS = (
+    "The file is shorter than 32 bytes, or it does not begin with the mark KLF1.",
+    "A count in the file's header is outside its limits: 1 to 1,024 persons, 0 to 4,096 links, 0 to 16 feeds.",
+    "An offset or the length in the file's header does not follow from the counts, or the length is not that of the "
+    "bytes handed over.",
+    "A feed's archive number is 0 or not above the one before it, or the feed's last byte is not 0.",
+    "A feed's date meaning is neither 1, the day of the event, nor 2, the day of registration.",
+    "The row table does not start at 0, falls somewhere, or does not end at the link count.",
+    "A link's target is not in the file, is the row's own person or is not above the target before it in the row, "
+    "or the link's feed index is not below the feed count, or its last byte is not 0.",
+    "A link's kind is unknown: known are 1 to 5 and 16 to 31.",
+    "A link's day is above 3,652,059, which is 31 December 9999.",
+    "A person asked about is not in the file.",
+    "From and To are the same person.",
+    "The hops asked for are not 1 to 8.",
+    "The classes asked for are not a sum of classes, 1 to 15.",
+    "The date meaning asked for is neither 1, the day of the event, nor 2, the day of registration.",
+    "The first day asked for is 0, the last day is above 3,652,059, or the first day is above the last.",
+    "The output has fewer than ten cells, so there is no room for one chain.",
+    "The bookmark is not ten cells, or it is not the record of a chain of this listing.",
+    "The working cells hold fewer records than there are half chains.",
+    "The program's input is shorter than 28 bytes, so there is no whole question in it.",
+)
+
+# The bit of an answer that says refused; below it stand the number, from bit 32 on, and the place.
+_REFUSED = 1 << 63
+
+
+class Refused(Exception):
+    """A refusal: its number and place, as docs/REFUSALS.md has them, and its meaning (empty for a number without a line)."""
+
+    def __init__(self, number: int, place: int) -> None:
+        super().__init__(number, place)
+        self.number = number
+        self.place = place
+        self.meaning = MEANINGS[number - 1] if 1 <= number <= len(MEANINGS) else ""
+
+    def __str__(self) -> str:
+        told = f"refused {self.number} at {self.place}"
+        return f"{told}: {self.meaning}" if self.meaning else told
+
+    def __repr__(self) -> str:
+        return f"Refused(number={self.number}, place={self.place})"
+
+
+def not_refused(answer: int) -> int:
+    """The library's answer, if it is no refusal."""
+    if answer & _REFUSED:
+        raise Refused(answer >> 32 & 0x7FFF_FFFF, answer & 0xFFFF_FFFF)
+    return answer

@@ -1,0 +1,199 @@
+-- The demands at the C door: a refusal is told by 2^63, and what was put into the number is read off it again.
+use mathlib.Core.Path.{_≡_, refl, ap, _∙_}
+use mathlib.Core.Bool.{Bool, true, false}
+use mathlib.Core.List.{List, [], _∷_}
+use Prim.Native.Nat.{ℕ, _+_, _*_, _-_, _^_, _≤_, _<_}
+use native.Mathlib.Omega.{arith}
+use lib.ListN.{length, take, drop, length-take, length-drop}
+use lib.Dec.{eqb}
+use borrow.Author.Tests.{eqb-true, eqb-false}
+use Rattle.linkfile.specs.Format.{personCount, linkCount, feedCount}
+use Rattle.linkfile.specs.Verdict as verdict
+use Rattle.linkfile.specs.Verdict.{Fault, sound, fault, unless, firstOf, Numbered}
+use Rattle.linkfile.specs.Checked.{fileFault, checked}
+use Rattle.linkfile.specs.Rows.{viewStart, viewEnd}
+use Rattle.linkfile.proofs.Faults.{first-both}
+use Rattle.linkfile.proofs.Counted.{laid-out-long}
+use Rattle.linkfile.proofs.Passed.{sound-rules, passed-fits}
+use Rattle.linkfile.proofs.Numbered.{file-numbered}
+use Rattle.ways.specs.Fewest.{fewest}
+use Rattle.ways.specs.Records.{cellsOf, written}
+use Rattle.ways.proofs.Fewest.{fewest-cap}
+use Rattle.question.specs.declared.Question.{Question}
+use Rattle.question.specs.Admission.{next}
+use Rattle.question.specs.Asked.{personFault}
+use Rattle.question.proofs.Numbered.{person-numbered}
+use Rattle.question.proofs.Refused.{person-proper}
+use Rattle.distance.specs.Answers as distance
+use Rattle.portion.specs.Listing.{Start, portionFault, portionFor, endedFor}
+use Rattle.portion.specs.Answers.{Answer, listed, refused, answerSaid, answerFor, Portioned}
+use Rattle.portion.specs.declared.Answer as code
+use Rattle.portion.proofs.Numbered.{portion-numbered}
+use Rattle.held.specs.Holding.{startOf}
+use Rattle.join.specs.Lists.{chainsFor, joinFault, firstOnes, allFit}
+use Rattle.join.proofs.Numbered.{join-numbered}
+use Rattle.outside.specs.Encoded.{refusalNumber, endedNumber, listedNumber, Small, CheckNumber, RowNumber, FewestNumber, PortionNumber, JoinNumber}
+use Rattle.outside.specs.HeldCells.{heldOf, heldCells, MovedCells, HeldNumber}
+use Rattle.outside.specs.TakenApart.{countIn, personsIn, linksIn, feedsIn}
+use Rattle.outside.proofs.Numbered.{ended-few}
+use Rattle.outside.proofs.HeldCells.{held-kept}
+use Rattle.outside.proofs.TakenApart.{refusal-apart, listed-apart, counts-apart}
+use Rattle.demands.specs.Paths.{FewestFrom}
+use Rattle.demands.specs.Door.{Tells, NothingLent, Listed, heldFault, AtTheDoor}
+use Rattle.demands.proofs.Fewest.{fewest-from}
+
+-- the numbers of a fault lie between these, and have room in an answer
+abbrev Between : ℕ → ℕ → Fault → Type 0
+Between lowest last sound = Unit {0}
+Between lowest last (fault number place) = (lowest ≤ number) × (number ≤ last) × (place < 2 ^ 32)
+
+numbered-between : (last : ℕ) (f : Fault) → Numbered last f → Between 1 last f
+numbered-between last sound n = tt
+numbered-between last (fault number place) n = n
+
+-- what a number tells by the first fault
+tells : (first : Fault) (lowest last : ℕ) {answer : ℕ} {Unchanged Answers : Type 0} → last ≤ 18 → Between lowest last first → (first ≡ sound → (answer < 2 ^ 63) × Answers)
+    → ((number place : ℕ) → first ≡ fault number place → (answer ≡ refusalNumber number place) × Unchanged) → Tells first lowest last answer Unchanged Answers
+tells sound lowest last few between passes fails =
+    record {
+      refused = (λ h. absurd (let b = passes refl .0 in omega arith), λ n. absurd (n refl));
+      apart = λ number place e. let z : _≡_ {A = ℕ} 0 1 = cc in absurd (omega arith);
+      unchanged = λ h. absurd (let b = passes refl .0 in omega arith);
+      answers = λ e. passes refl .1;
+    }
+tells (fault r p) lowest last few between passes fails =
+    let told = fails r p refl in
+    let parts = refusal-apart r p (omega (arith, between .1)) (between .2) in
+    record {
+      refused = (λ h e. let z : _≡_ {A = ℕ} 0 1 = cc in omega arith, λ n. omega (arith, told .0));
+      apart = λ number place e. let same : r ≡ number = cc in let there : p ≡ place = cc in (rw (told .0) (parts .0) ∙ same, rw (told .0) (parts .1) ∙ there, omega (arith, between .0), omega (arith, between .1));
+      unchanged = λ h. told .1;
+      answers = λ e. let z : _≡_ {A = ℕ} 0 1 = cc in absurd (omega arith);
+    }
+
+kin-check : (file : List ℕ) {answer : ℕ} → CheckNumber file answer
+    → Tells (fileFault file) 1 9 answer NothingLent ((personsIn answer ≡ personCount file) × (linksIn answer ≡ linkCount file) × (feedsIn answer ≡ feedCount file))
+unfolding checked
+kin-check file {answer} is =
+    tells (fileFault file) 1 9 (omega arith) (numbered-between 9 (fileFault file) (file-numbered file))
+    (λ e.
+    let fit = passed-fits (sound-rules file e) in
+    let told : answer ≡ personCount file + linkCount file * 2 ^ 16 + feedCount file * 2 ^ 32 = is ∙ rw e in
+    (omega (arith, fit, told), rw told (counts-apart (personCount file) (linkCount file) (feedCount file) (omega (arith, fit)) (omega (arith, fit)))))
+    (λ number place e. (is ∙ rw e, tt))
+
+-- a row view is a part of a file that has passed, or empty
+kin-row : (file : List ℕ) (person : ℕ) {answer : ℕ} → RowNumber file person answer → answer < 2 ^ 63
+unfolding checked
+kin-row file person is = omega (arith, is, go (fileFault file) refl)
+  where
+    shown : Fault → List ℕ
+    shown first =
+        let said = verdict.verdict first (personCount file) (linkCount file) (feedCount file) in
+        take (viewEnd said file person - viewStart said file person) (drop (viewStart said file person) file)
+
+    go : (first : Fault) → fileFault file ≡ first → length (shown first) < 2 ^ 63
+    go (fault number place) e = omega arith
+    go sound e =
+        let rules = sound-rules file e in
+        let said = verdict.passed (personCount file) (linkCount file) (feedCount file) in
+        let start = viewStart said file person in
+        let fit = passed-fits rules in
+        omega (arith, length-take (viewEnd said file person - start) (drop start file), length-drop start file, laid-out-long file (rules .lays), fit)
+
+kin-fewest : (file : List ℕ) (q : Question) (person : ℕ) {answer : ℕ} → FewestNumber file q person answer
+    → Tells (firstOf (fileFault file) (personFault (personCount file) q person)) 1 15 answer NothingLent (FewestFrom file q person answer)
+unfolding distance.answered
+kin-fewest file q person {answer} is =
+    let first = firstOf (fileFault file) (personFault (personCount file) q person) in
+    tells first 1 15 (omega arith) (numbered-between 15 first (person-numbered file q person))
+    (λ e.
+    let proper = person-proper (personCount file) q person (first-both (fileFault file) (personFault (personCount file) q person) e .1) .0 in
+    let told : answer ≡ fewest (next file q) (q .to) (q .hops) person = is ∙ rw e in
+    (omega (arith, told, fewest-cap (next file q) (q .to) (q .hops) person, proper .most), rw told (fewest-from file q person)))
+    (λ number place e. (is ∙ rw e, tt))
+
+-- portion, held listing and join are told alike
+listing-tells : (first : Fault) (last count : ℕ) (ended : Bool) {said : Answer} {answer : ℕ} {Unchanged : Type 0} → last ≤ 18 → Numbered last first → said ≡ answerFor first count ended → Small said → answer ≡ listedNumber said
+    → ((number place : ℕ) → first ≡ fault number place → Unchanged) → Tells first 1 last answer Unchanged (Listed answer count ended)
+listing-tells first last count ended {said} {answer} few numbered is small told unchanged =
+    tells first 1 last few (numbered-between last first numbered)
+    (λ e.
+    let listing : said ≡ listed count ended = is ∙ rw e in
+    let number : answer ≡ count + endedNumber ended * 2 ^ 62 = told ∙ rw listing in
+    let fits : count < 2 ^ 62 = rw listing at small in
+    (omega (arith, number, fits, ended-few ended), rw number (listed-apart count ended fits)))
+    (λ number place e. (told ∙ rw (is, e), unchanged number place e))
+
+portion-tells : {file : List ℕ} {q : Question} {start : Start} {out out′ : List ℕ} {answer : code.Answer} {number : ℕ} {Unchanged : Type 0} → Portioned file q start out out′ answer → Small (answerSaid answer) → number ≡ listedNumber (answerSaid answer)
+    → ((r place : ℕ) → portionFault file q start out ≡ fault r place → Unchanged)
+    → Tells (portionFault file q start out) 1 17 number Unchanged (Listed number (length (portionFor file q start out)) (endedFor file q start out))
+portion-tells {file} {q} {start} {out} p small told unchanged =
+    listing-tells (portionFault file q start out) 17 (length (portionFor file q start out)) (endedFor file q start out) (omega arith) (portion-numbered file q start out) (p .answers) small told unchanged
+
+kin-portion : {file : List ℕ} {q : Question} {start : Start} {out out′ : List ℕ} {answer : ℕ} → PortionNumber file q start out out′ answer
+    → Tells (portionFault file q start out) 1 17 answer (out′ ≡ out) (Listed answer (length (portionFor file q start out)) (endedFor file q start out))
+kin-portion p = portion-tells (p .portioned) (p .small) (p .answers) (λ number place e. p .portioned .cells ∙ rw e)
+
+kin-join : {file : List ℕ} {q : Question} {working working′ out out′ : List ℕ} {answer : ℕ} → JoinNumber file q working working′ out out′ answer
+    → Tells (joinFault file q working out) 1 18 answer ((working′ ≡ working) × (out′ ≡ out)) (Listed answer (length (firstOnes (chainsFor file q) out)) (allFit (chainsFor file q) out))
+kin-join {file} {q} {working} {out = out} j =
+    listing-tells (joinFault file q working out) 18 (length (firstOnes (chainsFor file q) out)) (allFit (chainsFor file q) out) (omega arith) (join-numbered file q working out) (j .joins .answers) (j .small) (j .answers)
+    (λ number place e. (j .joins .shelf ∙ rw e, j .joins .cells ∙ rw e))
+
+-- a call on 18 cells
+module _ {file cells cells′ out out′ : List ℕ} {answer : ℕ} (m : MovedCells file cells cells′ out out′ answer) where
+  unmoved : m .held ≡ heldOf cells → cells′ ≡ cells
+  unmoved same = m .keeps ∙ ap (heldCells cells) same ∙ held-kept cells
+
+  -- a refusal leaves the held listing as it was, and so its cells
+  refused-stays : (number place : ℕ) → portionFault file (heldOf cells .question) (startOf (heldOf cells)) out ≡ fault number place → (cells′ ≡ cells) × (out′ ≡ out)
+  refused-stays number place e = (unmoved (m .moves .keeps ∙ rw e), m .moves .portioned .cells ∙ rw e)
+
+  moved-tells : Tells (portionFault file (heldOf cells .question) (startOf (heldOf cells)) out) 1 17 answer ((cells′ ≡ cells) × (out′ ≡ out))
+      (Listed answer (length (portionFor file (heldOf cells .question) (startOf (heldOf cells)) out)) (endedFor file (heldOf cells .question) (startOf (heldOf cells)) out))
+  moved-tells = portion-tells (m .moves .portioned) (m .small) (m .answers) refused-stays
+
+  -- so does a portion of no chains
+  none-stays : countIn answer ≡ 0 → (cells′ ≡ cells) × (out′ ≡ out)
+  unfolding written cellsOf
+  none-stays zero = go (portionFault file (heldOf cells .question) (startOf (heldOf cells)) out) refl (portionFor file (heldOf cells .question) (startOf (heldOf cells)) out) refl
+    where
+      go : (f : Fault) → portionFault file (heldOf cells .question) (startOf (heldOf cells)) out ≡ f → (P : List (List ℕ)) → portionFor file (heldOf cells .question) (startOf (heldOf cells)) out ≡ P → (cells′ ≡ cells) × (out′ ≡ out)
+      go (fault number place) e P i = refused-stays number place e
+      go sound e [] i = (unmoved (m .moves .keeps ∙ rw (e, i)), m .moves .portioned .cells ∙ rw (e, i))
+      go sound e (c ∷ P) i = absurd (omega (arith, zero, moved-tells .answers e .0, ap length i))
+
+-- a wrong size counts as number 0
+tells-lower : {first : Fault} {last answer : ℕ} {Unchanged Answers : Type 0} → Tells first 1 last answer Unchanged Answers → Tells first 0 last answer Unchanged Answers
+tells-lower t =
+    record {
+      refused = t .refused;
+      apart = λ number place e. let a = t .apart number place e in (a .0, a .1, omega arith, a .3);
+      unchanged = t .unchanged;
+      answers = t .answers;
+    }
+
+module _ {file cells cells′ out out′ : List ℕ} {answer : ℕ} (h : HeldNumber file cells cells′ out out′ answer) where
+  kin-held : Tells (heldFault file cells out) 0 17 answer ((cells′ ≡ cells) × (out′ ≡ out))
+      (Listed answer (length (portionFor file (heldOf cells .question) (startOf (heldOf cells)) out)) (endedFor file (heldOf cells .question) (startOf (heldOf cells)) out))
+  kin-held = go (eqb (length cells) 18) refl
+    where
+      go : (whole : Bool) → eqb (length cells) 18 ≡ whole
+          → Tells (unless whole 0 0 (portionFault file (heldOf cells .question) (startOf (heldOf cells)) out)) 0 17 answer ((cells′ ≡ cells) × (out′ ≡ out))
+          (Listed answer (length (portionFor file (heldOf cells .question) (startOf (heldOf cells)) out)) (endedFor file (heldOf cells .question) (startOf (heldOf cells)) out))
+      go true e = tells-lower (moved-tells (h .moved (eqb-true (length cells) 18 e)))
+      go false e =
+          let w = h .wrongSize (eqb-false (length cells) 18 e) in
+          tells (fault 0 0) 0 17 (omega arith) (omega arith, omega arith, omega arith) (λ i. let z : _≡_ {A = ℕ} 0 1 = cc in absurd (omega arith))
+          (λ number place i. let zero : 0 ≡ number = cc in let none : 0 ≡ place = cc in (omega (arith, w .0), (w .1, w .2)))
+
+  kin-held-stays : countIn answer ≡ 0 → (cells′ ≡ cells) × (out′ ≡ out)
+  kin-held-stays zero = go (eqb (length cells) 18) refl
+    where
+      go : (whole : Bool) → eqb (length cells) 18 ≡ whole → (cells′ ≡ cells) × (out′ ≡ out)
+      go true e = none-stays (h .moved (eqb-true (length cells) 18 e)) zero
+      go false e = let w = h .wrongSize (eqb-false (length cells) 18 e) in (w .1, w .2)
+
+pub at-the-door : AtTheDoor
+at-the-door = record { kinCheck = kin-check; kinRow = kin-row; kinFewest = kin-fewest; kinPortion = kin-portion; kinHeld = kin-held; kinHeldStays = kin-held-stays; kinJoin = kin-join }

@@ -1,0 +1,59 @@
+-- The demands at the C door: what the one number tells that each exported function answers. Definitions only.
+-- The promises of the listing functions (outside, specs/) hold the promise of the operation behind them, of the same cells: so demands 2 and 3,
+-- which speak of such calls, hold of them as they stand, and count and ended are read off the number.
+use mathlib.Core.Path.{_≡_}
+use mathlib.Core.Logic.{_≢_, _↔_}
+use mathlib.Core.Bool.{Bool}
+use mathlib.Core.List.{List}
+use Prim.Native.Nat.{ℕ, _^_, _≤_, _<_}
+use lib.ListN.{length}
+use lib.Dec.{eqb}
+use Rattle.linkfile.specs.Format.{personCount, linkCount, feedCount}
+use Rattle.linkfile.specs.Verdict.{Fault, sound, fault, unless, firstOf}
+use Rattle.linkfile.specs.Checked.{fileFault}
+use Rattle.question.specs.declared.Question.{Question}
+use Rattle.question.specs.Asked.{personFault}
+use Rattle.portion.specs.Listing.{Start, portionFault, portionFor, endedFor}
+use Rattle.held.specs.Holding.{startOf}
+use Rattle.join.specs.Lists.{chainsFor, joinFault, firstOnes, allFit}
+use Rattle.outside.specs.Encoded.{CheckNumber, RowNumber, FewestNumber, PortionNumber, JoinNumber}
+use Rattle.outside.specs.HeldCells.{heldOf, HeldNumber}
+use Rattle.outside.specs.TakenApart.{refusalIn, placeIn, countIn, endedIn, personsIn, linksIn, feedsIn}
+use Rattle.demands.specs.Paths.{FewestFrom}
+
+-- A call of which this is the first fault, its number being one from the lowest to the last: the answer is 2^63 or more exactly where there
+-- is a fault, whose number and place are read off it, and then what was lent is unchanged; otherwise the answer is read off it
+pub record Tells (first : Fault) (lowest last answer : ℕ) (Unchanged Answers : Type 0) : Type 0 where
+  pub refused : (2 ^ 63 ≤ answer) ↔ (first ≢ sound)
+  pub apart : (number place : ℕ) → first ≡ fault number place → (refusalIn answer ≡ number) × (placeIn answer ≡ place) × (lowest ≤ number) × (number ≤ last)
+  pub unchanged : 2 ^ 63 ≤ answer → Unchanged
+  pub answers : first ≡ sound → Answers
+
+-- nothing is lent but for reading
+abbrev pub NothingLent : Type 0
+NothingLent = Unit {0}
+
+-- so many chains were listed, and whether none follows
+abbrev pub Listed : ℕ → ℕ → Bool → Type 0
+Listed answer count ended = (countIn answer ≡ count) × (endedIn answer ≡ ended)
+
+-- the first fault of a held listing in cells: a wrong size, which counts as number 0, before the portion's
+abbrev pub heldFault : List ℕ → List ℕ → List ℕ → Fault
+heldFault file cells out = unless (eqb (length cells) 18) 0 0 (portionFault file (heldOf cells .question) (startOf (heldOf cells)) out)
+
+pub record AtTheDoor : Type 0 where
+  pub kinCheck : (file : List ℕ) {answer : ℕ} → CheckNumber file answer
+      → Tells (fileFault file) 1 9 answer NothingLent ((personsIn answer ≡ personCount file) × (linksIn answer ≡ linkCount file) × (feedsIn answer ≡ feedCount file))
+  -- the row view comes with no refusal number
+  pub kinRow : (file : List ℕ) (person : ℕ) {answer : ℕ} → RowNumber file person answer → answer < 2 ^ 63
+  pub kinFewest : (file : List ℕ) (q : Question) (person : ℕ) {answer : ℕ} → FewestNumber file q person answer
+      → Tells (firstOf (fileFault file) (personFault (personCount file) q person)) 1 15 answer NothingLent (FewestFrom file q person answer)
+  pub kinPortion : {file : List ℕ} {q : Question} {start : Start} {out out′ : List ℕ} {answer : ℕ} → PortionNumber file q start out out′ answer
+      → Tells (portionFault file q start out) 1 17 answer (out′ ≡ out) (Listed answer (length (portionFor file q start out)) (endedFor file q start out))
+  pub kinHeld : {file cells cells′ out out′ : List ℕ} {answer : ℕ} → HeldNumber file cells cells′ out out′ answer
+      → Tells (heldFault file cells out) 0 17 answer ((cells′ ≡ cells) × (out′ ≡ out))
+      (Listed answer (length (portionFor file (heldOf cells .question) (startOf (heldOf cells)) out)) (endedFor file (heldOf cells .question) (startOf (heldOf cells)) out))
+  -- "with none, nothing in it changes"
+  pub kinHeldStays : {file cells cells′ out out′ : List ℕ} {answer : ℕ} → HeldNumber file cells cells′ out out′ answer → countIn answer ≡ 0 → (cells′ ≡ cells) × (out′ ≡ out)
+  pub kinJoin : {file : List ℕ} {q : Question} {working working′ out out′ : List ℕ} {answer : ℕ} → JoinNumber file q working working′ out out′ answer
+      → Tells (joinFault file q working out) 1 18 answer ((working′ ≡ working) × (out′ ≡ out)) (Listed answer (length (firstOnes (chainsFor file q) out)) (allFit (chainsFor file q) out))
