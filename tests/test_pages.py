@@ -1,5 +1,5 @@
 """The pages held to what they speak of: docs/FORMAT.md to the six-person file, the picture of the rooms to crates.txt, README's question to
-the program. target/bin/chains has to stand."""
+the program, its version to the header. target/bin/chains has to stand."""
 
 import re
 import subprocess
@@ -77,6 +77,10 @@ class Readme(unittest.TestCase):
         command, shown = blocks(section("README.md", "Asking another question"))
         printed = subprocess.run(command, shell=True, cwd=ROOT, stdout=subprocess.PIPE, check=True, text=True).stdout
         self.assertEqual(printed, shown)
+
+    def test_the_version_is_the_header_s(self):
+        (version,) = re.findall(r'KIN_VERSION "(.*)"', (ROOT / "include" / "kin.h").read_text())
+        self.assertIn(f"version {version},", section("README.md", "Which name is what"))
 
 
 if __name__ == "__main__":

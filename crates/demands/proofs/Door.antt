@@ -9,7 +9,7 @@ use lib.Dec.{eqb}
 use borrow.Author.Tests.{eqb-true, eqb-false}
 use Rattle.linkfile.specs.Format.{personCount, linkCount, feedCount}
 use Rattle.linkfile.specs.Verdict as verdict
-use Rattle.linkfile.specs.Verdict.{Fault, sound, fault, unless, firstOf, Numbered}
+use Rattle.linkfile.specs.Verdict.{Fault, sound, fault, firstOf, Numbered}
 use Rattle.linkfile.specs.Checked.{fileFault, checked}
 use Rattle.linkfile.specs.Rows.{viewStart, viewEnd}
 use Rattle.linkfile.proofs.Faults.{first-both}
@@ -39,7 +39,7 @@ use Rattle.outside.proofs.Numbered.{ended-few}
 use Rattle.outside.proofs.HeldCells.{held-kept}
 use Rattle.outside.proofs.TakenApart.{refusal-apart, listed-apart, counts-apart}
 use Rattle.demands.specs.Paths.{FewestFrom}
-use Rattle.demands.specs.Door.{Tells, NothingLent, Listed, heldFault, AtTheDoor}
+use Rattle.demands.specs.Door.{Tells, NothingLent, Listed, sizeFault, heldFault, AtTheDoor}
 use Rattle.demands.proofs.Fewest.{fewest-from}
 
 -- the numbers of a fault lie between these, and have room in an answer
@@ -180,12 +180,12 @@ module _ {file cells cells′ out out′ : List ℕ} {answer : ℕ} (h : HeldNum
   kin-held = go (eqb (length cells) 18) refl
     where
       go : (whole : Bool) → eqb (length cells) 18 ≡ whole
-          → Tells (unless whole 0 0 (portionFault file (heldOf cells .question) (startOf (heldOf cells)) out)) 0 17 answer ((cells′ ≡ cells) × (out′ ≡ out))
+          → Tells (sizeFault whole (portionFault file (heldOf cells .question) (startOf (heldOf cells)) out)) 0 17 answer ((cells′ ≡ cells) × (out′ ≡ out))
           (Listed answer (length (portionFor file (heldOf cells .question) (startOf (heldOf cells)) out)) (endedFor file (heldOf cells .question) (startOf (heldOf cells)) out))
       go true e = tells-lower (moved-tells (h .moved (eqb-true (length cells) 18 e)))
       go false e =
           let w = h .wrongSize (eqb-false (length cells) 18 e) in
-          tells (fault 0 0) 0 17 (omega arith) (omega arith, omega arith, omega arith) (λ i. let z : _≡_ {A = ℕ} 0 1 = cc in absurd (omega arith))
+          tells (sizeFault false (portionFault file (heldOf cells .question) (startOf (heldOf cells)) out)) 0 17 (omega arith) (omega arith, omega arith, omega arith) (λ i. let z : _≡_ {A = ℕ} 0 1 = cc in absurd (omega arith))
           (λ number place i. let zero : 0 ≡ number = cc in let none : 0 ≡ place = cc in (omega (arith, w .0), (w .1, w .2)))
 
   kin-held-stays : countIn answer ≡ 0 → (cells′ ≡ cells) × (out′ ≡ out)

@@ -37,9 +37,13 @@ NothingLent = Unit {0}
 abbrev pub Listed : ℕ → ℕ → Bool → Type 0
 Listed answer count ended = (countIn answer ≡ count) × (endedIn answer ≡ ended)
 
--- the first fault of a held listing in cells: a wrong size, which counts as number 0, before the portion's
+-- a held listing of a wrong size counts as number 0
+abbrev pub sizeFault : Bool → Fault → Fault
+sizeFault whole after = unless whole 0 0 after
+
+-- the first fault of a held listing in cells: its size, then the portion's
 abbrev pub heldFault : List ℕ → List ℕ → List ℕ → Fault
-heldFault file cells out = unless (eqb (length cells) 18) 0 0 (portionFault file (heldOf cells .question) (startOf (heldOf cells)) out)
+heldFault file cells out = sizeFault (eqb (length cells) 18) (portionFault file (heldOf cells .question) (startOf (heldOf cells)) out)
 
 pub record AtTheDoor : Type 0 where
   pub kinCheck : (file : List ℕ) {answer : ℕ} → CheckNumber file answer
