@@ -1,6 +1,6 @@
-// The library and the program beside other ways to list chains, on the same graphs and questions. Every pair is timed in turns in a
-// child of its own, whose processor time and memory are bounded: a side that would take too long is stopped and told as such.
-// Writes a line of figures for each case and side; the table is made of them by table.py. Never part of pass or fail.
+// The library and the program beside other ways to list chains, on the same graphs and questions: one round. Every pair is timed in
+// turns in a child of its own, whose processor time and memory are bounded: a side that would take too long is stopped and told as
+// such. Writes a line of figures for each case and side; the table is made of them by table.py. Never part of pass or fail.
 #include "../plain/measure.hpp"
 #include "cases.hpp"
 #include "side.hpp"
@@ -116,19 +116,14 @@ static void check_whole(const Case &c, uint64_t &count, uint64_t &checksum) {
     check_all(whole, c, count, checksum);
 }
 
-// In turns; a side that takes over half a second is timed once.
 static Figures measured(Side &one, Side &other, const Case &c) {
     Figures f{};
-    f.seconds = check_all(other, c, f.count, f.checksum);
+    Timed theirs([&] { ask_all(other, c); }, check_all(other, c, f.count, f.checksum));
     bound_time(0);
-    f.our_seconds = check_all(one, c, f.our_count, f.our_checksum);
-    const bool once = f.seconds > 0.5;
-    const int our_calls = calls_a_turn(f.our_seconds), calls = calls_a_turn(f.seconds);
-    const double stop = seconds() + 0.25;
-    for (int i = 0; i < 3 || seconds() < stop; ++i) {
-        f.our_seconds = std::min(f.our_seconds, timed([&] { ask_all(one, c); }, our_calls));
-        if (!once) f.seconds = std::min(f.seconds, timed([&] { ask_all(other, c); }, calls));
-    }
+    Timed ours([&] { ask_all(one, c); }, check_all(one, c, f.our_count, f.our_checksum));
+    take_turns(ours, theirs);
+    f.our_seconds = ours.least;
+    f.seconds = theirs.least;
     return f;
 }
 
@@ -241,19 +236,18 @@ static void write_input(const Case &c, const std::string &path) {
     fclose(file);
 }
 
-// The rounds.
+// A round.
 
-class Rounds {
+class Asking {
     const std::string self, chains, plain_program, folder;
     Words sides{"unpruned", "pruned", "itself"};
-    Words slow;  // who took over a second or was stopped: asked in the first round only
+    const Words slow;  // who took over a second or was stopped in an earlier round
 
     template <class F> void once(const std::string &key, const std::string &name, const std::string &side, F beside) {
         if (std::find(slow.begin(), slow.end(), key + side) != slow.end()) return;
         Figures f{};
         const Outcome o = beside(f);
         tell(key, name, side, o, f);
-        if (o.state != Outcome::DONE || f.seconds > 1) slow.push_back(key + side);
     }
 
     Words program(const std::string &side) const {
@@ -271,24 +265,24 @@ class Rounds {
     }
 
   public:
-    explicit Rounds(char **word) : self(word[0]), chains(word[1]), plain_program(word[2]), folder(word[3]) {
+    Asking(char **word, const Words &slow) : self(word[0]), chains(word[1]), plain_program(word[2]), folder(word[3]), slow(slow) {
         if (igraph_side(Links(1))) sides.push_back("igraph");
     }
 
-    void go(const std::vector<Case> &cases, int rounds) {
+    void all(const std::vector<Case> &cases) {
         write_cases(cases, folder + "/cases");
-        for (int round = 1; round <= rounds; ++round)
-            for (const Case &c : cases) {
-                fprintf(stderr, "round %d of %d: %s\n", round, rounds, c.name.c_str());
-                for (auto &side : sides) once(c.key, c.name, side, [&](Figures &f) { return library_beside(side, c, f); });
-                if (c.wanted == A_MILLION) programs(c);
-            }
+        for (const Case &c : cases) {
+            fprintf(stderr, "%s\n", c.name.c_str());
+            for (auto &side : sides) once(c.key, c.name, side, [&](Figures &f) { return library_beside(side, c, f); });
+            if (c.wanted == A_MILLION) programs(c);
+        }
     }
 };
 
+// The words behind the first five name who is not asked again: KEY and SIDE in one word.
 int main(int words, char **word) {
     if (words == 2 && std::string(word[1]) == "igraph") return igraph_program();
-    if (words != 5) return fputs("beside CHAINS PLAIN_PROGRAM FOLDER SECONDS\n", stderr), 2;
+    if (words < 5) return fputs("beside CHAINS PLAIN_PROGRAM FOLDER SECONDS [KEYSIDE...]\n", stderr), 2;
     most_seconds = atof(word[4]);
-    Rounds(word).go(all_cases(), 3);
+    Asking(word, Words(word + 5, word + words)).all(all_cases());
 }

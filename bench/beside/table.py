@@ -1,13 +1,14 @@
-"""Makes the table and the picture of the figures: table.py SECONDS FIGURES... .
+"""Makes the table and the picture of the figures: table.py FOLDER LOAD. The folder has them and gets
+table.md and benchmarks.svg; LOAD is the last line below the table.
 
 A ratio is our time divided by theirs: above 1 we are slower. Ends with 1, and says so loudly, where two sides do not agree on the
-chains. The table goes between two marker lines of docs/MEASUREMENTS.md, the picture to docs/benchmarks.svg."""
+chains."""
 
 import collections
-import statistics
 import sys
 
 import picture
+from figures import ratio_of, row, shown, time_of
 
 SIDES = {
     "unpruned": "plain C++, no pruning",
@@ -15,11 +16,12 @@ SIDES = {
     "igraph": "igraph (C)",
     "networkx": "networkx (Python)",
 }
-BEGIN, END = "<!-- bench/run.sh writes from here -->", "<!-- to here -->"
 
-Line = collections.namedtuple(
-    "Line", "key name side state our_count our_checksum count checksum our_seconds seconds"
-)
+
+class Line(collections.namedtuple("Line", "key name side state our_count our_checksum count checksum ours theirs")):
+    @property
+    def ratio(self):
+        return self.ours / self.theirs
 
 
 def read(paths):
@@ -32,18 +34,18 @@ def read(paths):
 
 
 def with_ours(lines):
-    """networkx's lines have no figures of ours: they get the least time, and the count and checksum, of the other lines."""
-    ours = {}
+    """Lines without figures of ours, networkx's and those of who was stopped, get those that are shown against the same pruning."""
+    rounds = collections.defaultdict(list)
     for line in lines:
-        if line.side == "pruned" and (line.key not in ours or line.our_seconds < ours[line.key].our_seconds):
-            ours[line.key] = line
+        if line.side == "pruned":
+            rounds[line.key].append(line)
     filled = []
     for line in lines:
-        of = ours[line.key]
+        ours = shown(rounds[line.key])
         if line.side == "networkx":
-            line = line._replace(our_count=of.our_count, our_checksum=of.our_checksum)
-        if not line.our_seconds:
-            line = line._replace(our_seconds=of.our_seconds)
+            line = line._replace(our_count=ours.our_count, our_checksum=ours.our_checksum)
+        if not line.ours:
+            line = line._replace(ours=ours.ours)
         filled.append(line)
     return filled
 
@@ -55,54 +57,34 @@ def disagreements(lines):
             yield f"{line.name}: {line.side} {theirs}, ours {ours}"
 
 
-def short(number):
-    """Two figures, or three where there is one before the point; never with an exponent."""
-    if number >= 0.1:
-        return f"{number:.2f}"
-    places = 2
-    while number * 10**places < 10 and places < 9:
-        places += 1
-    return f"{number:.{places}f}"
-
-
-def time_of(seconds):
-    for unit, size in (("s", 1), ("ms", 1e-3), ("us", 1e-6)):
-        if seconds >= size:
-            break
-    number = seconds / size
-    return f"{number:.{0 if number >= 9.95 else 1}f} {unit}"
-
-
 class Cell:
     """What was found of one side in one case, over the rounds."""
 
-    def __init__(self, lines, most):
-        ratios = [line.our_seconds / line.seconds for line in lines]
-        self.ratio, self.least, self.greatest = statistics.median(ratios), min(ratios), max(ratios)
-        self.stopped = {"over time": f"over {most:g} s", "over memory": "over 4 GB"}.get(lines[0].state)
-        self.seconds = min(line.seconds for line in lines)
-
-        self.figure = short(self.ratio)
+    def __init__(self, lines):
+        ratios = [line.ratio for line in lines]
+        self.least, self.greatest = min(ratios), max(ratios)
+        line = shown(lines)
+        self.ratio, self.figure = line.ratio, ratio_of(line.ratio)
+        over = "over " if line.state != "done" else ""
+        self.times = f"{time_of(line.ours)} / {over}{time_of(line.theirs)}"
+        self.stopped = over and f"{over}{time_of(line.theirs)}" + (", 4 GB" if line.state == "over memory" else "")
 
     def text(self):
-        if self.stopped:
-            return f"under {self.figure} ({self.stopped})"
-        return f"{self.figure} ({time_of(self.seconds)})"
+        return f"{'under ' if self.stopped else ''}{self.figure} ({self.times})"
 
 
 class Case:
-    def __init__(self, lines, most):
+    def __init__(self, lines):
         of = collections.defaultdict(list)
         for line in lines:
             of[line.side].append(line)
         self.name = lines[0].name
         self.chains = of["pruned"][0].our_count
-        self.seconds = min(line.our_seconds for line in of["pruned"])
-        self.cells = {side: Cell(of[side], most) for side in [*SIDES, "itself"] if side in of}
+        self.cells = {side: Cell(of[side]) for side in [*SIDES, "itself"] if side in of}
 
-    def row(self):
+    def cells_of_row(self):
         cells = [self.cells[side].text() if side in self.cells else "not there" for side in SIDES]
-        return [self.name, f"{self.chains:,}", time_of(self.seconds), *cells]
+        return [self.name, f"{self.chains:,}", *cells]
 
 
 def spread(cases, side):
@@ -115,42 +97,36 @@ def spread(cases, side):
 def noise(cases):
     itself, apart = spread(cases, "itself")
     same, same_apart = spread(cases, "pruned")
+    rows = [case.cells["pruned"].ratio for case in cases]
     return (
-        f"Noise of this run, up to three rounds: the plain code against itself gave {itself}, and two rounds of one case were up "
-        f"to {apart} in a hundred apart. Ours against the same pruning gave {same}; two rounds were up to {same_apart} in a hundred "
-        "apart."
+        f"Noise of this run: in single rounds the plain code against itself gave {itself}, two rounds of one case up to {apart} in "
+        f"a hundred apart. Ours against the same pruning gave {same}, up to {same_apart} in a hundred apart; the rows show "
+        f"{min(rows):.2f} to {max(rows):.2f}."
     )
 
 
 def markdown(cases):
-    head = ["Case", "Chains", "Ours", *(f"to {name}" for name in SIDES.values())]
-    rows = [head, ["---"] * len(head), *(case.row() for case in cases)]
-    return "\n".join("| " + " | ".join(row) + " |" for row in rows) + "\n\n" + noise(cases) + "\n"
+    head = ["Case", "Chains", *SIDES.values()]
+    rows = [head, ["---"] * len(head), *(case.cells_of_row() for case in cases)]
+    return "\n".join(map(row, rows)) + "\n\n" + noise(cases) + "\n"
 
 
-def put_between_markers(path, text):
-    whole = open(path).read()
-    before, rest = whole.split(BEGIN)
-    after = rest.split(END)[1]
-    with open(path, "w") as file:
-        file.write(f"{before}{BEGIN}\n{text}{END}{after}")
-
-
-def main(most, paths):
-    lines = with_ours(read(paths))
+def main(folder, load):
+    lines = with_ours(read([folder + "/figures", folder + "/networkx"]))
     by_key = collections.defaultdict(list)
     for line in lines:
         by_key[line.key].append(line)
-    cases = [Case(of_key, most) for of_key in by_key.values()]
-    table = markdown(cases)
-    print("\nour time divided by theirs, above 1 is slower; beside it their time\n\n" + table)
+    cases = [Case(of_key) for of_key in by_key.values()]
+    table = f"{markdown(cases)}{load}\n"
+    print("\nour time divided by theirs (ours / theirs), above 1 is slower\n\n" + table)
     wrong = list(disagreements(lines))
     if wrong:
         sys.exit("\n!!!! THE SIDES DO NOT AGREE ON THE CHAINS, nothing is written !!!!\n" + "\n".join(wrong))
-    put_between_markers("docs/MEASUREMENTS.md", table)
-    with open("docs/benchmarks.svg", "w") as file:
+    with open(folder + "/table.md", "w") as file:
+        file.write(table)
+    with open(folder + "/benchmarks.svg", "w") as file:
         file.write(picture.draw(cases, SIDES))
-    print("all sides agree on the count of chains and on their checksum; docs/MEASUREMENTS.md and docs/benchmarks.svg are written")
+    print("all sides agree on the count of chains and on their checksum")
 
 
-main(float(sys.argv[1]), sys.argv[2:])
+main(*sys.argv[1:])

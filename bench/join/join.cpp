@@ -1,10 +1,7 @@
 // The public join, from the file's bytes to the records, against a join in plain C++ and against the public portion, each with
-// room for all half chains and all chains. All are timed in turns in one run; what is printed is the ratio of the least times.
-// Never part of pass or fail.
+// room for all half chains and all chains. Never part of pass or fail.
 #include "../plain/measure.hpp"
 #include "../plain/portion.hpp"
-#include <cstdio>
-#include <string>
 
 // The join in plain C++. Half chains are built by putting each person before those of one hop fewer; the index has for each
 // number of hops and each first person the first record. No count beforehand: the working cells have to do.
@@ -100,28 +97,43 @@ static uint64_t our_join(const Bytes &file, const question &q, Cells &working, C
                     working.size(), out.data(), out.size());
 }
 
-static void row(const std::string &name, const Links &links, uint32_t hops, size_t halves, size_t chains) {
+static void listing(const std::string &name, const Links &links, uint32_t hops, size_t halves, size_t chains) {
     Bytes file = file_of(links);
     question q = asked(0, uint32_t(links.size() - 1), hops);
     Cells w(halves * RECORD, 7), v(halves * RECORD, 7), x(chains * RECORD), y(chains * RECORD), z(chains * RECORD);
     uint64_t n = 0, m = 0, s = 0;
-    double join, other, again, search;
-    least([&] { n = our_join(file, q, w, x); }, [&] { m = plain_join(file, q, v, y); }, join, other);
-    least([&] { n = our_join(file, q, w, x); }, [&] { s = ours({file, q, nullptr}, z); }, again, search);
-    const size_t found = size_t(n & ~ENDED);
-    printf("%-40s %9zu %10.2f %10.2f %12.1f %8.1f\n", name.c_str(), found, join / other, again / search, join * 1e6,
-           join * 1e9 / double(std::max(found, size_t(1))));
-    if (n != m || n != s || w != v || x != y || !(n & ENDED)) puts("  DIFFERENT");
+    double ours_in_turns, other;
+    const auto join = [&] { n = our_join(file, q, w, x); };
+    compare(join, [&] { m = plain_join(file, q, v, y); }, ours_in_turns, other);
+    const std::string found = std::to_string(n & ~ENDED);
+    tell("Join: " + name, found, ours_in_turns, other, "");
+    compare(join, [&] { s = ours({file, q, nullptr}, z); }, ours_in_turns, other);
+    tell("Join, against our portion: " + name, found, ours_in_turns, other, "");
+    must_agree(n == m && n == s && w == v && x == y && n & ENDED, name);
+}
+
+// With room for all half chains but one they are counted, all but the last, and none is written.
+static void counting(const std::string &name, const Links &links, uint32_t hops, size_t halves, size_t chains) {
+    Bytes file = file_of(links);
+    question q = asked(0, uint32_t(links.size() - 1), hops);
+    Cells w(halves * RECORD, 7), x(chains * RECORD);
+    uint64_t n = our_join(file, q, w, x), refusal = 0;
+    size_t written = 0;
+    while (w[written * RECORD] != 7) ++written;
+    Cells less((written - 1) * RECORD);
+    double counted, whole;
+    compare([&] { refusal = our_join(file, q, less, x); }, [&] { n = our_join(file, q, w, x); }, counted, whole);
+    must_agree(kin_refusal_number(refusal) == 18 && n & ENDED, name);
+    tell("Join refused by 18, one record too few, against the join: " + name, "", counted, whole, "");
 }
 
 int main() {
-    printf("%-40s %9s %10s %10s %12s %8s\n", "whole listings, ours by join", "chains", "to C++", "to search", "us", "ns/chain");
-    row("all of 16 linked, 6 hops", all_linked(16), 6, 4000, 300000);
-    row("all of 20 linked, 6 hops", all_linked(20), 6, 8000, 1200000);
-    row("all of 12 linked, 8 hops", all_linked(12), 8, 8000, 800000);
-    row("all of 64 linked, 4 hops", all_linked(64), 4, 8000, 300000);
-    row("40 persons, 12 links each, 6 hops", drawn(40, 12, 1), 6, 8000, 200000);
-    row("32 persons, 8 links each, 8 hops", drawn(32, 8, 2), 8, 20000, 800000);
-    row("128 persons, 16 links each, 6 hops", drawn(128, 16, 3), 6, 20000, 400000);
-    row("1,024 persons, 4 links each, 8 hops", drawn(1024, 4, 4), 8, 4000, 10000);
+    listing("20 persons all linked, 6 hops", all_linked(20), 6, 8000, 1200000);
+    listing("12 persons all linked, 8 hops", all_linked(12), 8, 8000, 800000);
+    listing("32 persons, 8 links each, 8 hops", drawn(32, 8, 2), 8, 20000, 800000);
+    listing("40 persons, 12 links each, 6 hops", drawn(40, 12, 1), 6, 8000, 200000);
+    listing("128 persons, 16 links each, 6 hops", drawn(128, 16, 3), 6, 20000, 400000);
+    listing("1,024 persons, 4 links each, 8 hops", drawn(1024, 4, 4), 8, 4000, 10000);
+    counting("128 persons, 16 links each, 6 hops", drawn(128, 16, 3), 6, 20000, 400000);
+    counting("1,024 persons, 4 links each, 8 hops", drawn(1024, 4, 4), 8, 4000, 10000);
 }

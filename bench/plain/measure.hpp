@@ -1,10 +1,10 @@
-// The least time of runs in turns, and the high-water mark of a stack.
+// A round of a comparison: turns of both sides, and the least time of each.
 #pragma once
 #include "clock.h"
 #include <algorithm>
+#include <cstdio>
 #include <cstdlib>
-#include <cstring>
-#include <pthread.h>
+#include <string>
 
 template <class F> double timed(F f, int calls) {
     double start = seconds();
@@ -12,49 +12,52 @@ template <class F> double timed(F f, int calls) {
     return (seconds() - start) / calls;
 }
 
-// How many calls of so many seconds make a turn of at least 100 us.
-inline int calls_a_turn(double call) { return std::max(1, int(100e-6 / std::max(call, 1e-7))); }
+// The least time of a call of one side, over turns of at least 100 us or one call. What takes over half a second is timed once.
+template <class F> class Timed {
+    F f;
+    int calls = 1;
 
-// The least times of both, a call, over turns of at least 100 us or one call.
-template <class F, class G> void least(F f, G g, double &tf, double &tg) {
-    const int calls = calls_a_turn(std::min(timed(f, 1), timed(g, 1)));
-    tf = tg = 1e9;
-    double stop = seconds() + 0.8;
-    for (int i = 0; i < 15 || seconds() < stop; ++i) {
-        tf = std::min(tf, timed(f, calls));
-        tg = std::min(tg, timed(g, calls));
+  public:
+    double least;
+
+    Timed(F f, double first) : f(f), least(first) {
+        for (double turn = first; turn < 100e-6; turn = timed(f, calls) * calls) calls *= 2;
     }
-}
 
-// The high-water mark of a call's stack, in bytes below its caller's frame: the call runs on a stack of its own, painted just
-// before. The least that can be told is 256.
-struct Painted {
-    void (*call)(void *);
-    void *with;
-    unsigned char *bottom;
-    size_t deep;
+    explicit Timed(F f) : Timed(f, timed(f, 1)) {}
+
+    void turn() {
+        if (least <= 0.5) least = std::min(least, timed(f, calls));
+    }
 };
 
-inline void *painted(void *p) {
-    auto &s = *static_cast<Painted *>(p);
-    auto *top = static_cast<unsigned char *>(__builtin_frame_address(0));
-    memset(s.bottom, 0xa5, size_t(top - 256 - s.bottom));
-    s.call(s.with);
-    unsigned char *low = s.bottom;
-    while (low < top - 256 && *low == 0xa5) ++low;
-    s.deep = size_t(top - low);
-    return nullptr;
+template <class... Side> void take_turns(Side &...sides) {
+    const double stop = seconds() + 0.3;
+    for (int i = 0; i < 3 || seconds() < stop; ++i) (sides.turn(), ...);
 }
 
-inline size_t high_water(void (*call)(void *), void *with) {
-    const size_t size = 1 << 18;
-    auto *stack = static_cast<unsigned char *>(aligned_alloc(4096, size));
-    Painted s{call, with, stack, 0};
-    pthread_attr_t attr;
-    pthread_attr_init(&attr);
-    pthread_attr_setstack(&attr, stack, size);
-    pthread_t t;
-    if (!pthread_create(&t, &attr, painted, &s)) pthread_join(t, nullptr);
-    free(stack);
-    return s.deep;
+template <class F, class G> void compare(F f, G g, double &tf, double &tg) {
+    Timed one(f);
+    Timed other(g);
+    take_turns(one, other);
+    tf = one.least;
+    tg = other.least;
+}
+
+inline std::string with_commas(size_t number) {
+    std::string text = std::to_string(number);
+    for (size_t i = text.size(); i > 3; i -= 3) text.insert(i - 3, ",");
+    return text;
+}
+
+// The line of a round, of which rows.py makes a row; no chains where none are listed. The goal is "at most RATIO", or words.
+inline void tell(const std::string &name, const std::string &chains, double ours, double theirs, const std::string &goal) {
+    printf("%s\t%s\t%.12f\t%.12f\t%s\n", name.c_str(), chains.c_str(), ours, theirs, goal.c_str());
+}
+
+// Nothing is shown of sides that do not answer the same.
+inline void must_agree(bool agree, const std::string &name) {
+    if (agree) return;
+    fprintf(stderr, "the two sides differ: %s\n", name.c_str());
+    exit(1);
 }

@@ -1,14 +1,20 @@
 #!/usr/bin/env bash
-# Measures the search against a C++ baseline and prints ratios. Never part of pass or fail.
-# The face of the search is exported in a copy of the crates under target/bench, not in the repository.
+# Measures the search against a C++ baseline and prints its rows of the table. Never part of pass or fail.
+# The face of the search is exported in a copy of the crates under target/bench, not in the repository. What stands proved under
+# target/ is taken along, so that it is not proved again if it has not changed.
 set -euo pipefail
 here=$(cd "$(dirname "$0")" && pwd)
 root=$(cd "$here/../.." && pwd)
 copy=$root/target/bench/search
-mkdir -p "$copy/crates/bench_export/src"
+mkdir -p "$copy/crates/bench_export/src" "$copy"/target/{rlib,stamp,log}
 for crate in ways compact pages search; do
     rm -rf "$copy/crates/$crate"
     cp -r "$root/crates/$crate" "$copy/crates/$crate"
+    [ -f "$root/target/stamp/$crate" ] || continue
+    rm -rf "$copy/target/rlib/$crate.rlib"
+    cp -r "$root/target/rlib/$crate.rlib" "$copy/target/rlib/"
+    cp "$root/target/stamp/$crate" "$copy/target/stamp/"
+    cp "$root/target/log/$crate".* "$copy/target/log/"
 done
 cat >"$copy/crates.txt" <<'END'
 ways:
@@ -47,6 +53,4 @@ pub extern "C" fn bench_list(
 }
 END
 (cd "$copy" && rt staticlib bench_export >build.log 2>&1) || { tail -20 "$copy/build.log"; exit 1; }
-cxx=${CXX:-g++}
-"$cxx" -std=c++17 -O3 -Wall -Wextra -pthread "$here/drive.cpp" "$copy/target/staticlib/libbench_export.a" -o "$copy/drive"
-"$copy/drive"
+exec bash "$here/../plain/measure.sh" bench/search/drive.cpp "$copy/target/staticlib/libbench_export.a"

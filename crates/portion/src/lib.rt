@@ -46,8 +46,8 @@ pub fn portion(
     listed(file, question, started, bookmark, out)
 }
 
-// The same where the file, the question and the output have passed. The graph and the table are this function's own, so that a
-// refusal before it costs no stack.
+// The same where the file, the question and the output have passed. The compiler lays it into its caller, so a refusal before it
+// takes the stack of its graph and table too.
 fn listed(
     file: &[u8],
     question: Question,

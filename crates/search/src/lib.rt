@@ -2,7 +2,7 @@
 // dictionary order, from a bookmark on, as records, until there is no more room, and says whether one more follows.
 // One face, `list`, lends marks, barriers and trail down to two functions that call each other in a cycle. What it promises
 // speaks of the listing alone. Pruning, by the fewest hops at first and by barriers from then on, changes no listing:
-// that is proved, and how little is left to enter is measured.
+// that is proved; the time it saves is measured.
 ghost use Rattle.search.specs.Face.{Asked, Answered};
 
 mod barriers;
