@@ -67,11 +67,11 @@ module _ {rows targets : List ℕ} {from to hops : ℕ} (k : Passed rows targets
 
     -- ---- the half chains are counted, then written
 
-    pub graph-shelve : {marks : List Bool} {index working : List ℕ} {writes : ℕ} → marks ≡ marked-from from → length index ≡ suc placesAtMost → Shelve rows targets (set blank 1 to) ending marks index working writes (places hops)
+    pub graph-shelve : {marks : List Bool} {index working : List ℕ} {writes : ℕ} → length marks ≡ persons → length index ≡ suc placesAtMost → Shelve rows targets (set blank 1 to) ending marks index working writes (places hops)
     graph-shelve m i = record {
       graph = k .graph;
       indexed = indexed-ending e (k .target);
-      wide = ap length m ∙ length-set (replicate persons false) from true ∙ length-replicate persons false;
+      wide = m;
       within = omega (arith, k .few, i);
       few = omega (arith, k .few);
     }

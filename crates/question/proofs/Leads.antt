@@ -11,6 +11,7 @@ use borrow.Author.Tests.{ltb-true, lt-ltb, le-ltb}
 use Rattle.ways.specs.Graph.{_∈_, keep}
 use Rattle.ways.specs.Order.{Rising}
 use Rattle.ways.proofs.Members.{keep-from, keep-in}
+use Rattle.ways.proofs.Rising.{Steps, steps-rising, rising-keep, rising-by}
 use Rattle.linkfile.specs.Format.{personCount, row, target}
 use Rattle.linkfile.proofs.Passed.{Passed}
 use Rattle.linkfile.proofs.Linked.{passed-link}
@@ -33,37 +34,19 @@ numbers-lie from (suc count) {x} m = go (List·Memᴰ·cases-cons m) (λ i. numb
 
 -- what is kept of a rising run rises
 module _ (f : ℕ → ℕ) (test : ℕ → Bool) where
-  kept-above : (low from count : ℕ) → (0 < count → low < f from) → ((l : ℕ) → from ≤ l → suc l < from + count → f l < f (suc l)) → (y : ℕ) → y ∈ map f (keep test (numbersFrom from count)) → low < y
-  unfolding numbersFrom keep
-  kept-above low from zero h s y m = absurd (List·Memᴰ·not-nil m)
-  kept-above low from (suc count) h s y m =
-      let first = h (omega arith) in
-      go first (test from) m (λ i. kept-above low (suc from) count (λ some. let step = s from (omega arith) (omega arith) in omega arith) (λ l a b. s l (omega arith) (omega arith)) y i)
-    where
-      rest : List ℕ
-      rest = keep test (numbersFrom (suc from) count)
+  abbrev Lower : ℕ → ℕ → Type 0
+  Lower l m = f l < f m
 
-      cases : low < f from → (y ≡ f from) ⊎ (y ∈ map f rest) → (y ∈ map f rest → low < y) → low < y
-      cases first (inl e) on = omega arith
-      cases first (inr i) on = on i
-
-      go : low < f from → (t : Bool) → y ∈ map f (cond t (from ∷ rest) rest) → (y ∈ map f rest → low < y) → low < y
-      go first true m on = cases first (List·Memᴰ·cases-cons m) on
-      go first false m on = on m
+  run-steps : (from count : ℕ) → ((l : ℕ) → from ≤ l → suc l < from + count → f l < f (suc l)) → Steps Lower (numbersFrom from count)
+  unfolding numbersFrom
+  run-steps from zero s = tt
+  run-steps from (suc zero) s = tt
+  run-steps from (suc (suc count)) s = (s from (omega arith) (omega arith), run-steps (suc from) (suc count) (λ l a b. s l (omega arith) (omega arith)))
 
   kept-rising : (from count : ℕ) → ((l : ℕ) → from ≤ l → suc l < from + count → f l < f (suc l)) → Rising _<_ (map f (keep test (numbersFrom from count)))
-  unfolding numbersFrom keep
-  kept-rising from zero s = tt
-  kept-rising from (suc count) s =
-      let on : (l : ℕ) → suc from ≤ l → suc l < suc from + count → f l < f (suc l) = λ l a b. s l (omega arith) (omega arith) in
-      go (test from) (kept-above (f from) (suc from) count (λ some. s from (omega arith) (omega arith)) on) (kept-rising (suc from) count on)
-    where
-      rest : List ℕ
-      rest = keep test (numbersFrom (suc from) count)
-
-      go : (t : Bool) → ((y : ℕ) → y ∈ map f rest → f from < y) → Rising _<_ (map f rest) → Rising _<_ (map f (cond t (from ∷ rest) rest))
-      go true above rises = (above, rises)
-      go false above rises = rises
+  kept-rising from count s =
+      let run = steps-rising Lower (λ x y z a b. omega arith) (numbersFrom from count) (run-steps from count s) in
+      rising-by Lower _<_ f (keep test (numbersFrom from count)) (rising-keep Lower test (numbersFrom from count) run) (λ x y i j h. h)
 
 -- whoever is next is so by an admitted link, and the other way round
 pub next-led : (file : List ℕ) (q : Question) (person : ℕ) {v : ℕ} → v ∈ next file q person → AdmittedLink file q person v

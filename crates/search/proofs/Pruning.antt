@@ -13,7 +13,7 @@ use Rattle.ways.proofs.Cases.{same-or-not}
 use Rattle.ways.proofs.Barrier.{none-more, none-hops, pop-on}
 use Rattle.ways.proofs.Members.{within-cons}
 use Rattle.compact.specs.Compact.{persons}
-use Rattle.search.specs.Barriers.{Hold, Kept, unwind, Trailed, trailRoom, Undoable, Raising, Raised, Barren, Settling, Settled, raised, undone, Barred}
+use Rattle.search.specs.Barriers.{Hold, Kept, unwind, Trailed, trailRoom, Undoable, Raising, Raised, Barren, Settled, raised, undone, Barred}
 use Rattle.search.specs.declared.walk.Found.{Found}
 
 -- ---- the trail
@@ -125,11 +125,6 @@ pub raise-set : {barriers trail : List ℕ} {v barrier n x : ℕ} → Raising ba
     → Raised barriers (set barriers v barrier) trail (set trail n (v * 16 + x)) v barrier n (n + 1)
 raise-set {barriers} {trail} {v} {barrier} {n} {x} k h e =
     record { only = inr refl; trailed = trailed-push trail n barriers v barrier (v * 16 + x) (omega (arith, k .room)) (omega (arith, k .old)) (omega (arith, k .old)) }
-
--- ---- `barren`
-
-pub barren-so : {side : ℕ} {before after : Found} → side ≡ 0 → after .more ≡ 0 → after .count ≡ before .count → Barren side before after
-barren-so a b c = record { loose = a; none = b; same = c }
 
 -- ---- barriers that were kept
 
@@ -246,6 +241,3 @@ module _ {barriers trail : List ℕ} {v side barrier : ℕ} {before after : Foun
 
   pub settle-undone : {barriers′ : List ℕ} → barriers′ ≡ unwind (slice (before .trail) (after .trail) trail) barriers → Settled barriers barriers′ trail trail v side barrier before after (before .trail)
   settle-undone e = undone refl refl e
-
-pub settle-undo : {barriers trail : List ℕ} {v barrier : ℕ} {before after : Found} → Settling barriers trail v barrier before after → Undoable barriers trail (before .trail) (after .trail)
-settle-undo k = record { wide = k .raising .wide; room = k .raising .room; rise = k .rise; fits = k .raising .fits }

@@ -161,13 +161,13 @@ module _ {rows targets bookmark : List ℕ} {marks : List Bool} {chain out barri
             let none = emits-none 1 (w .room) (page (noted found) out) _ (sym (ap (λ (q : Page). q .more) right) ∙ f .none) (sym (ap (λ (q : Page). q .count) right) ∙ f .same) in
             sym (onward-loose s _ _ (f .loose)) ∙ map-eq-nil-iff _ .0 none
 
-        pub enter-settling : Settling barriers₁ trail₁ v (w .left - 1 + 1) found r
-        enter-settling = record {
+        pub enter-settling : {barrier : ℕ} → barrier < 16 → Settling barriers₁ trail₁ v barrier found r
+        enter-settling low = record {
           raising = record {
             place = k .place;
             wide = on-barred .hold .long;
             old = on-barred .hold .low v;
-            new = omega (arith, k .short);
+            new = low;
             room = on-barred .trailed .long ∙ k .trails;
             fits = omega (arith, on-barred .trailed .fits, on-barred .trailed .long, k .trails);
           };

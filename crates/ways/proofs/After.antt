@@ -1,18 +1,18 @@
 -- What follows a bookmark: through the rows of the graph, and in the listing.
 use mathlib.Core.Path.{_≡_, refl, sym, ap, subst, _∙_}
-use mathlib.Core.Logic.{_≢_, _⊎_, inl, inr}
+use mathlib.Core.Logic.{_⊎_, inl, inr}
 use mathlib.Core.Bool.{Bool, true, false, true≢false, cond}
-use mathlib.Core.List.{List, [], _∷_, _++_, map, flatMap, List·Memᴰ·head, List·Memᴰ·tail, Memᴰ·of-map}
-use Prim.Native.Nat.{ℕ, suc, _<_}
+use mathlib.Core.List.{List, [], _∷_, _++_, map, List·Memᴰ·head, List·Memᴰ·tail, Memᴰ·of-map}
+use Prim.Native.Nat.{ℕ, _<_}
 use native.Mathlib.Omega.{arith}
-use borrow.Author.Tests.{eq-eqb, ne-eqb, le-ltb}
+use borrow.Author.Tests.{eq-eqb, le-ltb}
 use Rattle.ways.specs.Graph.{Graph, _∈_, keep}
 use Rattle.ways.specs.Order.{Before, less, same, before, Rising}
-use Rattle.ways.specs.Listing.{by, ways, listing}
+use Rattle.ways.specs.Listing.{ways, listing}
 use Rattle.ways.specs.Portions.{after}
-use Rattle.ways.proofs.Members.{flatMap-from, out-among, flatMap-append, mem-split, keep-from, keep-in, keep-append}
+use Rattle.ways.proofs.Members.{mem-split, keep-from, keep-in, keep-append}
 use Rattle.ways.proofs.Rising.{rising-below, rising-above, rising-keep}
-use Rattle.ways.proofs.Ordered.{before-trans, before-asym, before-true, true-before, false-before, Heads, by-heads}
+use Rattle.ways.proofs.Ordered.{before-trans, before-asym, before-true, true-before, false-before}
 
 -- all of L, or none
 pub after-all : (b : List ℕ) (L : List (List ℕ)) → ((c : List ℕ) → c ∈ L → Before b c) → after b L ≡ L
@@ -94,35 +94,6 @@ after-before x v b ws h = after-none (x ∷ b) (map (_∷_ v) ws) (λ c m. let r
 
 pub after-behind : (x v : ℕ) (b : List ℕ) (ws : List (List ℕ)) → x < v → after (x ∷ b) (map (_∷_ v) ws) ≡ map (_∷_ v) ws
 after-behind x v b ws h = after-all (x ∷ b) (map (_∷_ v) ws) (λ c m. let r = Memᴰ·of-map (_∷_ v) ws m in subst (λ d. Before (x ∷ b) d) (r .2) (less h))
-
-module _ (f : ℕ → List (List ℕ)) (heads : (y : ℕ) → Heads y (f y)) where
-  pub after-below : (x : ℕ) (b : List ℕ) (lo : List ℕ) → ((y : ℕ) → y ∈ lo → y < x) → after (x ∷ b) (flatMap f lo) ≡ []
-  after-below x b lo h = after-none (x ∷ b) (flatMap f lo) (λ c m. step c (flatMap-from f lo m))
-    where
-      step : (c : List ℕ) → (y : ℕ) × (y ∈ lo) × (c ∈ f y) → ¬ Before (x ∷ b) c
-      step c q r = let u = heads (q .0) c (q .2) in less-not-behind (h (q .0) (q .1)) (subst (λ d. Before (x ∷ b) d) (u .1) r)
-
-  pub after-above : (x : ℕ) (b : List ℕ) (hi : List ℕ) → ((y : ℕ) → y ∈ hi → x < y) → after (x ∷ b) (flatMap f hi) ≡ flatMap f hi
-  after-above x b hi h = after-all (x ∷ b) (flatMap f hi) (λ c m. step c (flatMap-from f hi m))
-    where
-      step : (c : List ℕ) → (y : ℕ) × (y ∈ hi) × (c ∈ f y) → Before (x ∷ b) c
-      step c q = let u = heads (q .0) c (q .2) in subst (λ d. Before (x ∷ b) d) (sym (u .1)) (less (h (q .0) (q .1)))
-
-  -- the bookmark through a rising row: nothing of what stands below x, of x what stands after, and all above
-  pub after-row : (x : ℕ) (b lo hi : List ℕ) → Rising _<_ (lo ++ x ∷ hi) → after (x ∷ b) (flatMap f (lo ++ x ∷ hi)) ≡ after (x ∷ b) (f x) ++ flatMap f hi
-  unfolding flatMap
-  after-row x b lo hi r = rw (flatMap-append f lo (x ∷ hi), after-append (x ∷ b) (flatMap f lo) (f x ++ flatMap f hi), after-below x b lo (λ y m. rising-below _<_ hi m r), after-append (x ∷ b) (f x) (flatMap f hi), after-above x b hi (rising-above _<_ x lo hi r))
-
-module _ (g : Graph) (rows : (p : ℕ) → Rising _<_ (g p)) (t k p : ℕ) (seen : List ℕ) (x : ℕ) (lo hi : List ℕ) (at : g p ≡ lo ++ x ∷ hi) where
-  -- at a person on the way
-  pub after-ways : x ≢ t → ¬ (x ∈ seen) → (b : List ℕ) → after (x ∷ b) (ways g t (suc k) seen p) ≡ map (_∷_ x) (after b (ways g t k (x ∷ seen) x)) ++ flatMap (by t seen (ways g t k)) hi
-  unfolding ways by
-  after-ways n o b = rw (at, after-row (by t seen (ways g t k)) (by-heads t seen (ways g t k)) x b lo hi (subst (Rising _<_) at (rows p)), ne-eqb x t n, out-among o, after-map x b (ways g t k (x ∷ seen) x))
-
-  -- at the end
-  pub after-ways-end : x ≡ t → (b : List ℕ) → after (x ∷ b) (ways g t (suc k) seen p) ≡ flatMap (by t seen (ways g t k)) hi
-  unfolding ways by after
-  after-ways-end e b = rw (at, after-row (by t seen (ways g t k)) (by-heads t seen (ways g t k)) x b lo hi (subst (Rising _<_) at (rows p)), eq-eqb x t e, before-same x b [], before-nil b)
 
 -- the chains of a listing after a bookmark of it
 pub after-listing : (g : Graph) (s t k : ℕ) (b : List ℕ) → after (s ∷ b) (listing g s t k) ≡ map (_∷_ s) (after b (ways g t k (s ∷ []) s))

@@ -37,9 +37,6 @@ none-more g t j k p seen fewer h i e = none g t j p seen (λ w r. no-way e w (wa
 pub none-hops : (g : Graph) (t j k p : ℕ) (seen : List ℕ) → j ≤ k → ways g t k seen p ≡ [] → ways g t j seen p ≡ []
 none-hops g t j k p seen h = none-more g t j k p seen seen h (λ x m. m)
 
-pub none-seen : (g : Graph) (t k p u : ℕ) (seen : List ℕ) → ways g t k seen p ≡ [] → ways g t k (u ∷ seen) p ≡ []
-none-seen g t k p u seen = none-more g t k k p (u ∷ seen) seen (omega arith) (λ x m. List·Memᴰ·tail m)
-
 -- a way through v holds a way from v that is shorter and passes nobody seen
 pub way-through : {g : Graph} {t j p v : ℕ} {seen w : List ℕ} → Way g t j seen p w → v ∈ w → v ≢ t → (i : ℕ) × (u : List ℕ) × (i < j) × Way g t i (v ∷ seen) v u
 way-through (ends m e) q n = absurd (n (List·Memᴰ·eq-of-singleton q ∙ e))

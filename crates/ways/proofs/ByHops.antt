@@ -6,23 +6,20 @@ use Prim.Native.Nat.{ℕ, zero, suc, _≤_, _<_}
 use native.Mathlib.Omega.{arith}
 use native.Mathlib.Nat.{le-refl}
 use native.Mathlib.Decide.{decLe}
-use lib.ListN.{length}
 use lib.Dec.{eqb}
 use borrow.Author.Tests.{eqb-true, eq-eqb}
 use Rattle.ways.specs.Graph.{Graph, _∈_}
 use Rattle.ways.specs.Chain.{Distinct, hops, Chain}
-use Rattle.ways.specs.Order.{Before, short, Rising}
+use Rattle.ways.specs.Order.{Before, Rising}
 use Rattle.ways.specs.Listing.{ways, listing}
-use Rattle.ways.specs.Portions.{after}
 use Rattle.ways.specs.ByHops.{Sooner, shorter, level, shorterFirst, chainsOf, byHops}
 use Rattle.ways.proofs.Members.{keep-from, keep-in}
 use Rattle.ways.proofs.Way.{Way, way-in, way-from}
 use Rattle.ways.proofs.Listed.{exact}
 use Rattle.ways.proofs.Rising.{rising-append, rising-distinct, only, rising-keep, rising-within}
 use Rattle.ways.proofs.Ordered.{before-asym, ordered}
-use Rattle.ways.proofs.After.{after-all}
 use Rattle.ways.proofs.Barrier.{way-cut}
-use Rattle.ways.proofs.Records.{listing-some, listing-few}
+use Rattle.ways.proofs.Records.{listing-few}
 
 pub sooner-asym : {a b : List ℕ} → Sooner a b → ¬ Sooner b a
 sooner-asym (shorter l) (shorter m) = omega arith
@@ -87,14 +84,6 @@ module _ (g : Graph) (s t : ℕ) where
 
       from : hops c ≤ k → c ∈ listing g s t k → c ∈ byHops g s t k
       from l m = shorterFirst-in (chainsOf g s t) k (hops c) l (chainsOf-in (hops c) (listing-hops g s t k (hops c) c (le-refl (hops c)) m) refl)
-
-  -- a fresh start has all of them before it
-  pub byHops-start : (k : ℕ) → after [] (byHops g s t k) ≡ byHops g s t k
-  byHops-start k = after-all [] (byHops g s t k) (λ c m. some c (listing-some g s t k c (byHops-iff k c .0 m)))
-    where
-      some : (c : List ℕ) → 1 ≤ length c → Before [] c
-      some [] l = absurd (omega arith)
-      some (p ∷ c) l = short
 
   -- exact
   pub byHops-exact : (k : ℕ) → s ≢ t → (c : List ℕ) → c ∈ byHops g s t k ↔ Chain g s t k c

@@ -1,6 +1,6 @@
 -- The computed `fewest` is the fewest hops, at most k, else k+1; and what a search may leave out by it.
 use mathlib.Core.Path.{_≡_, refl, sym, subst}
-use mathlib.Core.Logic.{_≢_, _↔_}
+use mathlib.Core.Logic.{_≢_}
 use mathlib.Core.Bool.{Bool, true, false, cond}
 use mathlib.Core.List.{List, [], _∷_, _++_, map, List·Memᴰ·head, List·Memᴰ·tail, Memᴰ·map, Memᴰ·of-map, Memᴰ·cast}
 use Prim.Native.Nat.{ℕ, zero, suc, _+_, _≤_, _<_}
@@ -16,7 +16,7 @@ use Rattle.ways.specs.Listing.{ways}
 use Rattle.ways.specs.Fewest.{Reach, here, link, FewestUpTo, lowest, fewest}
 use Rattle.ways.proofs.Members.{mem-split}
 use Rattle.ways.proofs.Cut.{linked-left, linked-right, last-right, last-snoc}
-use Rattle.ways.proofs.Reach.{reach-more, none-near}
+use Rattle.ways.proofs.Reach.{none-near}
 
 -- the lowest of some numbers
 pub lowest-some : (cap h : ℕ) (ds : List ℕ) → h < cap → lowest cap ds ≤ h → (d : ℕ) × (d ∈ ds) × (d ≤ h)
@@ -88,9 +88,6 @@ module _ (g : Graph) (t : ℕ) where
       go true i = omega arith
       go false i = omega (arith, some-lowest (suc k) h (Memᴰ·map (fewest g t k) m) i)
 
-  pub fewest-reach : (k h p : ℕ) → h ≤ k → (fewest g t k p ≤ h) ↔ Reach g t h p
-  fewest-reach k h p l = (fewest-in k h p l, in-fewest k l)
-
   -- "at most k, else k+1"; and no other number is so
   pub fewest-up-to : (k p : ℕ) → FewestUpTo g t k (fewest g t k p) p
   fewest-up-to k p = record { cap = fewest-cap k p; reach = λ l. fewest-in k (fewest g t k p) p l (le-refl (fewest g t k p)); least = least }
@@ -115,13 +112,6 @@ module _ (g : Graph) (t : ℕ) where
       go (yes l) b = let i = le l in let j = ge (omega arith) in omega arith
       go (no n) (yes l) = let j = ge l in omega arith
       go (no n) (no m) = let c = f .cap in let e = fewest-cap k p in omega arith
-
-  -- as a table is filled by rounds: reached in round d, and not in the round before
-  pub fewest-round : (k d p : ℕ) → d < k → Reach g t (suc d) p → ¬ Reach g t d p → fewest g t k p ≡ suc d
-  fewest-round k d p l r n = sym (fewest-only k (suc d) p (record { cap = omega arith; reach = λ i. r; least = λ j i q. n (reach-more (let m : j ≤ d = omega arith in m) q) }))
-
-  pub fewest-never : (k p : ℕ) → ¬ Reach g t k p → fewest g t k p ≡ suc k
-  fewest-never k p n = sym (fewest-only k (suc k) p (record { cap = le-refl (suc k); reach = λ i. absurd (omega arith); least = λ j i q. n (reach-more (let m : j ≤ k = omega arith in m) q) }))
 
   -- along a link the number falls by at most one
   pub fewest-link : (k u v : ℕ) → v ∈ g u → fewest g t k u ≤ suc (fewest g t k v)

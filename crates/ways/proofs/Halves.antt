@@ -59,13 +59,7 @@ pub true-extends : (g : Graph) (p q : ℕ) (h : List ℕ) → q ∈ g p → ¬ (
 unfolding extends
 true-extends g p q h m o = rw (mem-among m, out-among o)
 
--- in dictionary order
-pub halfChains-rising : (g : Graph) (n s t j : ℕ) → Rising Before (halfChains g n s t j)
-unfolding halfChains
-halfChains-rising g n s t zero = ((λ y m. absurd (List·Memᴰ·not-nil m)), tt)
-halfChains-rising g n s t (suc j) = unless-row (λ p. eqb p s) (λ p. keep (extends g p) (halfChains g n s t j)) (personsBelow n) (persons-rising n) (λ p. rising-keep Before (extends g p) (halfChains g n s t j) (halfChains-rising g n s t j))
-
--- exact: just the half chains of j hops, in a file that has n persons
+-- what is listed is a half chain of j hops
 module _ (g : Graph) (n s t : ℕ) (apart : s ≢ t) where
   pub halfChains-from : (j : ℕ) {h : List ℕ} → h ∈ halfChains g n s t j → HalfChain g s t j h
   unfolding halfChains
@@ -85,41 +79,45 @@ module _ (g : Graph) (n s t : ℕ) (apart : s ≢ t) where
           let x = keep-from (extends g (q .0)) (halfChains g n s t j) (r .2) in
           subst (HalfChain g s t (suc j)) (r .3) (put (q .0) (r .1) (eqb-false (q .0) s (r .0)) (x .1) (on (r .1) (x .0)))
 
-  module _ (low : (p v : ℕ) → v ∈ g p → p < n) where
-    pub halfChains-in : (j : ℕ) (h : List ℕ) → HalfChain g s t j h → h ∈ halfChains g n s t j
-    unfolding halfChains
-    halfChains-in j [] r = absurd (r .last)
-    halfChains-in zero (p ∷ []) r = List·Memᴰ·head (ap (λ x. x ∷ []) (r .last))
-    halfChains-in (suc j) (p ∷ []) r = absurd (omega arith)
-    halfChains-in zero (p ∷ q ∷ h) r = absurd (omega arith)
-    halfChains-in (suc j) (p ∷ q ∷ h) r =
-        let rest = halfChains-in j (q ∷ h) (record { last = r .last; linked = r .linked .1; once = r .once .1; apart = λ i. r .apart (List·Memᴰ·tail i); exactly = omega arith }) in
-        flatMap-in _ (below-persons n p (low p q (r .linked .0)))
-        (rw (ne-eqb p s (λ e. r .apart (List·Memᴰ·head (sym e)))) (Memᴰ·map (_∷_ p) (keep-in (extends g p) rest (true-extends g p q h (r .linked .0) (r .once .0)))))
+-- in dictionary order
+pub halfChains-rising : (g : Graph) (n s t j : ℕ) → Rising Before (halfChains g n s t j)
+unfolding halfChains
+halfChains-rising g n s t zero = ((λ y m. absurd (List·Memᴰ·not-nil m)), tt)
+halfChains-rising g n s t (suc j) = unless-row (λ p. eqb p s) (λ p. keep (extends g p) (halfChains g n s t j)) (personsBelow n) (persons-rising n) (λ p. rising-keep Before (extends g p) (halfChains g n s t j) (halfChains-rising g n s t j))
 
-    pub halfChains-exact : (j : ℕ) (h : List ℕ) → h ∈ halfChains g n s t j ↔ HalfChain g s t j h
-    halfChains-exact j h = (halfChains-from j, halfChains-in j h)
+-- exact: all of them are, in a file that has n persons
+module _ (g : Graph) (n s t : ℕ) (apart : s ≢ t) (low : (p v : ℕ) → v ∈ g p → p < n) where
+  pub halfChains-in : (j : ℕ) (h : List ℕ) → HalfChain g s t j h → h ∈ halfChains g n s t j
+  unfolding halfChains
+  halfChains-in j [] r = absurd (r .last)
+  halfChains-in zero (p ∷ []) r = List·Memᴰ·head (ap (λ x. x ∷ []) (r .last))
+  halfChains-in (suc j) (p ∷ []) r = absurd (omega arith)
+  halfChains-in zero (p ∷ q ∷ h) r = absurd (omega arith)
+  halfChains-in (suc j) (p ∷ q ∷ h) r =
+      let rest = halfChains-in j (q ∷ h) (record { last = r .last; linked = r .linked .1; once = r .once .1; apart = λ i. r .apart (List·Memᴰ·tail i); exactly = omega arith }) in
+      flatMap-in _ (below-persons n p (low p q (r .linked .0)))
+      (rw (ne-eqb p s (λ e. r .apart (List·Memᴰ·head (sym e)))) (Memᴰ·map (_∷_ p) (keep-in (extends g p) rest (true-extends g p q h (r .linked .0) (r .once .0)))))
 
-    -- all half chains of at most k/2 hops; each once, shorter first; and the only such list
-    pub halves-exact : (k : ℕ) (h : List ℕ) → h ∈ halves g n s t k ↔ (HalfChain g s t (hops h) h × (hops h ≤ k / 2))
-    halves-exact k h = (λ m. to (shorterFirst-from (halfChains g n s t) (k / 2) m), λ r. shorterFirst-in (halfChains g n s t) (k / 2) (hops h) (r .1) (halfChains-in (hops h) h (r .0)))
-      where
-        to : (j : ℕ) × (j ≤ k / 2) × (h ∈ halfChains g n s t j) → HalfChain g s t (hops h) h × (hops h ≤ k / 2)
-        to q = let r = halfChains-from (q .0) (q .2) in (rw (r .exactly) r, omega (arith, r .exactly, q .1))
+  -- all half chains of at most k/2 hops; each once, shorter first; and the only such list
+  pub halves-exact : (k : ℕ) (h : List ℕ) → h ∈ halves g n s t k ↔ (HalfChain g s t (hops h) h × (hops h ≤ k / 2))
+  halves-exact k h = (λ m. to (shorterFirst-from (halfChains g n s t) (k / 2) m), λ r. shorterFirst-in (halfChains g n s t) (k / 2) (hops h) (r .1) (halfChains-in (hops h) h (r .0)))
+    where
+      to : (j : ℕ) × (j ≤ k / 2) × (h ∈ halfChains g n s t j) → HalfChain g s t (hops h) h × (hops h ≤ k / 2)
+      to q = let r = halfChains-from g n s t apart (q .0) (q .2) in (rw (r .exactly) r, omega (arith, r .exactly, q .1))
 
-    pub halves-ordered : (k : ℕ) → Rising Sooner (halves g n s t k)
-    halves-ordered k = shorterFirst-rising (halfChains g n s t) (halfChains-rising g n s t) (λ j h m. halfChains-from j m .exactly) (k / 2)
+  pub halves-ordered : (k : ℕ) → Rising Sooner (halves g n s t k)
+  halves-ordered k = shorterFirst-rising (halfChains g n s t) (halfChains-rising g n s t) (λ j h m. halfChains-from g n s t apart j m .exactly) (k / 2)
 
-    pub halves-determined : (k : ℕ) (H : List (List ℕ)) → Rising Sooner H → ((h : List ℕ) → h ∈ H ↔ (HalfChain g s t (hops h) h × (hops h ≤ k / 2))) → H ≡ halves g n s t k
-    halves-determined k H r i = only Sooner (λ a b. sooner-asym) H (halves g n s t k) r (halves-ordered k) (λ h m. halves-exact k h .1 (i h .0 m)) (λ h m. i h .1 (halves-exact k h .0 m))
+  pub halves-determined : (k : ℕ) (H : List (List ℕ)) → Rising Sooner H → ((h : List ℕ) → h ∈ H ↔ (HalfChain g s t (hops h) h × (hops h ≤ k / 2))) → H ≡ halves g n s t k
+  halves-determined k H r i = only Sooner (λ a b. sooner-asym) H (halves g n s t k) r (halves-ordered k) (λ h m. halves-exact k h .1 (i h .0 m)) (λ h m. i h .1 (halves-exact k h .0 m))
 
-    -- a half chain has a record
-    pub half-fits : (k size : ℕ) → k / 2 + 2 ≤ size → (h : List ℕ) → h ∈ halves g n s t k → Fits size h
-    half-fits k size l h m = let r = halves-exact k h .0 m in go h (r .0) (r .1)
-      where
-        go : (h : List ℕ) → HalfChain g s t (hops h) h → hops h ≤ k / 2 → Fits size h
-        go [] r i = absurd (r .last)
-        go (p ∷ h) r i = record { some = omega arith; room = omega arith }
+  -- a half chain has a record
+  pub half-fits : (k size : ℕ) → k / 2 + 2 ≤ size → (h : List ℕ) → h ∈ halves g n s t k → Fits size h
+  half-fits k size l h m = let r = halves-exact k h .0 m in go h (r .0) (r .1)
+    where
+      go : (h : List ℕ) → HalfChain g s t (hops h) h → hops h ≤ k / 2 → Fits size h
+      go [] r i = absurd (r .last)
+      go (p ∷ h) r i = record { some = omega arith; room = omega arith }
 
 -- refusal 18: none just where the working cells are as many as the records of the half chains together
 pub halvesFit-iff : (size cells : ℕ) (H : List (List ℕ)) → 0 < size → (halvesFit size cells H ≡ true) ↔ (length H * size ≤ cells)

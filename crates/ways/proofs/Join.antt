@@ -12,7 +12,7 @@ use borrow.Author.Tests.{eqb-true, eq-eqb}
 use Rattle.ways.specs.Graph.{Graph, _∈_, among, keep}
 use Rattle.ways.specs.Chain.{Last, Distinct, hops, Chain}
 use Rattle.ways.specs.Order.{Before, less, same, Rising}
-use Rattle.ways.specs.Portions.{lastOr, left}
+use Rattle.ways.specs.Portions.{lastOr}
 use Rattle.ways.specs.ByHops.{shorterFirst, chainsOf, byHops}
 use Rattle.ways.specs.Halves.{HalfChain, halfChains}
 use Rattle.ways.specs.Join.{leftHops, rightHops, LeftHalf, leftHalves, Meets, noneAmong, meets, glue, Split, joined}
@@ -28,9 +28,6 @@ use Rattle.ways.proofs.Onward.{leftHalves-from, leftHalves-in, leftHalv
 -- both halves together have L hops; the right half is a half chain of the question
 pub left-right : (L : ℕ) → leftHops L + rightHops L ≡ L
 left-right L = omega arith
-
-pub left-some : (L : ℕ) → 1 ≤ L → 1 ≤ leftHops L
-left-some L h = omega arith
 
 pub right-within : (L k : ℕ) → L ≤ k → rightHops L ≤ k / 2
 right-within L k l = omega arith

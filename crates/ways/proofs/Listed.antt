@@ -1,7 +1,7 @@
 -- `listing` holds every chain and nothing else.
 use mathlib.Core.Path.{_≡_, refl, sym, ap, subst, _∙_}
 use mathlib.Core.Logic.{_≢_, _↔_, _⊎_, inl, inr}
-use mathlib.Core.List.{List, [], _∷_, _++_, tail-eq-of-cons-eq, List·Memᴰ·head, List·Memᴰ·tail, List·Memᴰ·not-nil, List·Memᴰ·cases-cons, List·Memᴰ·eq-of-singleton, Memᴰ·map, Memᴰ·of-map, Memᴰ·cast}
+use mathlib.Core.List.{List, [], _∷_, _++_, List·Memᴰ·head, List·Memᴰ·tail, List·Memᴰ·not-nil, List·Memᴰ·cases-cons, List·Memᴰ·eq-of-singleton, Memᴰ·map, Memᴰ·of-map, Memᴰ·cast}
 use Prim.Native.Nat.{ℕ, zero, suc, _≤_}
 use native.Mathlib.Omega.{arith}
 use lib.ListN.{length, getD}
@@ -73,7 +73,7 @@ exact g s t k ne c = (λ m. to (Memᴰ·of-map (_∷_ s) (ways g t k (s ∷ []) 
     to r =
         let w = r .0 in
         let h = way-rest (way-from g t k s (s ∷ []) (r .1)) (out (λ e. ne (sym e)) List·Memᴰ·not-nil) in
-        subst (λ c. Chain g s t k c) (r .2) (record { first = refl; last = last-cons t s w (h .last); linked = h .linked; once = (λ a. h .apart s a (List·Memᴰ·head refl), h .once); some = last-some t w (h .last); few = h .few })
+        subst (λ c. Chain g s t k c) (r .2) (record { first = refl; last = last-cons t s w (h .last); linked = h .linked; once = (λ a. h .apart s a (List·Memᴰ·head refl), h .once); some = last-some t w (h .last); few = omega (arith, h .few) })
 
     from : (c : List ℕ) → Chain g s t k c → c ∈ listing g s t k
     from [] h = absurd (h .first)
@@ -81,13 +81,6 @@ exact g s t k ne c = (λ m. to (Memᴰ·of-map (_∷_ s) (ways g t k (s ∷ []) 
     from (p ∷ q ∷ w) h =
         Memᴰ·cast (ap (λ x. x ∷ q ∷ w) (h .first)) (Memᴰ·map (_∷_ s) (way-in (rest-way k s (s ∷ []) (q ∷ w)
         (record { linked = (subst (λ x. q ∈ g x) (h .first) (h .linked .0), h .linked .1); last = h .last; once = h .once .1; apart = λ x a j. h .once .0 (Memᴰ·cast (h .first ∙ sym (List·Memᴰ·eq-of-singleton j)) a); few = h .few }))))
-
--- a chain is a way on from its first
-pub chain-way : (g : Graph) (s t k : ℕ) → s ≢ t → (c : List ℕ) → Chain g s t k (s ∷ c) → Way g t k (s ∷ []) s c
-unfolding listing
-chain-way g s t k ne c h =
-    let r = Memᴰ·of-map (_∷_ s) (ways g t k (s ∷ []) s) (exact g s t k ne (s ∷ c) .1 h) in
-    subst (λ w. Way g t k (s ∷ []) s w) (tail-eq-of-cons-eq (r .2)) (way-from g t k s (s ∷ []) (r .1))
 
 -- nobody has a chain to himself
 pub no-chain : (g : Graph) (s k : ℕ) (c : List ℕ) → ¬ Chain g s s k c

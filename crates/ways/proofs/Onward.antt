@@ -1,6 +1,6 @@
 -- Simple sequences of exactly so many hops: the left halves; and the half chains, found from their first person on.
 use mathlib.Core.Path.{_≡_, refl, sym, ap, subst}
-use mathlib.Core.Logic.{_≢_, _↔_, _⊎_, inl, inr}
+use mathlib.Core.Logic.{_≢_, _⊎_, inl, inr}
 use mathlib.Core.Bool.{Bool, true, false, cond}
 use mathlib.Core.List.{List, [], _∷_, map, flatMap, List·Memᴰ·head, List·Memᴰ·tail, List·Memᴰ·not-nil, List·Memᴰ·cases-cons, List·Memᴰ·eq-of-singleton, Memᴰ·map, Memᴰ·of-map, Memᴰ·cast}
 use Prim.Native.Nat.{ℕ, zero, suc, _<_}
@@ -85,9 +85,6 @@ module _ (g : Graph) (s i : ℕ) where
   leftHalves-in [] r = absurd (r .first)
   leftHalves-in (p ∷ w) r = Memᴰ·cast (ap (λ x. x ∷ w) (r .first)) (Memᴰ·map (_∷_ s) (onward-in g (λ p. true) i (s ∷ []) s w (subst (λ x. Onward g (λ p. true) i (x ∷ []) x w) (r .first)
       (record { linked = r .linked; once = r .once .1; apart = λ x j m. r .once .0 (Memᴰ·cast (sym (List·Memᴰ·eq-of-singleton m)) j); exactly = r .exactly; ending = refl }))))
-
-  pub leftHalves-exact : (l : List ℕ) → l ∈ leftHalves g s i ↔ LeftHalf g s i l
-  leftHalves-exact l = (leftHalves-from, leftHalves-in l)
 
   pub leftHalves-rising : ((p : ℕ) → Rising _<_ (g p)) → Rising Before (leftHalves g s i)
   unfolding leftHalves

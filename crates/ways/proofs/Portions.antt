@@ -2,10 +2,10 @@
 use mathlib.Core.Path.{_≡_, refl, sym, ap, subst, _∙_}
 use mathlib.Core.Logic.{_↔_, _⊎_, inl, inr}
 use mathlib.Core.Bool.{true}
-use mathlib.Core.List.{List, [], _∷_, _++_, append-nil, cons≢nil, List·Memᴰ·head, List·Memᴰ·tail, List·Memᴰ·not-nil, Memᴰ·of-map}
+use mathlib.Core.List.{List, [], _∷_, cons≢nil, List·Memᴰ·head, List·Memᴰ·tail, List·Memᴰ·not-nil, Memᴰ·of-map}
 use Prim.Native.Nat.{ℕ, zero, suc, _≤_, _<_}
 use native.Mathlib.Omega.{arith}
-use lib.ListN.{length, take, drop, length-take, length-drop, take-append-drop, drop-of-length-le}
+use lib.ListN.{length, take, drop, length-drop, drop-of-length-le}
 use lib.Seq.{take-add, drop-drop}
 use borrow.Author.Tests.{leb-true, le-leb}
 use Rattle.ways.specs.Graph.{Graph, _∈_}
@@ -14,15 +14,10 @@ use Rattle.ways.specs.Listing.{ways, listing}
 use Rattle.ways.specs.Portions.{after, portion, endedAfter, lastOr, laid, total, left}
 use Rattle.ways.proofs.Members.{take-in}
 use Rattle.ways.proofs.Ordered.{before-asym, false-before, ordered}
-use Rattle.ways.proofs.After.{after-all, after-none, after-from, after-in, after-rising, after-after, after-part}
+use Rattle.ways.proofs.After.{after-all, after-none, after-from, after-in, after-rising, after-after}
 
--- the last one, or what stood before
+-- the last one, or what stood before: it is one of them
 module _ {A : Type 0} where
-  pub lastOr-append : (b : A) (l m : List A) → lastOr b (l ++ m) ≡ lastOr (lastOr b l) m
-  lastOr-append b [] m = refl
-  lastOr-append b (x ∷ l) m = lastOr-append x l m
-
-  -- it is one of them
   pub lastOr-in : (x : A) (l : List A) → lastOr x l ∈ x ∷ l
   lastOr-in x [] = List·Memᴰ·head refl
   lastOr-in x (y ∷ l) = List·Memᴰ·tail (lastOr-in y l)
@@ -62,16 +57,6 @@ module _ (L : List (List ℕ)) (rises : Rising Before L) where
   left-after b [] = refl
   left-after b (r ∷ rooms) = rw (left-after (lastOr b (portion r b L)) rooms, after-portion b r, drop-drop)
 
-  -- nothing follows just where all has been handed over
-  pub ended-after : (b : List ℕ) (rooms : List ℕ) → (after (left rooms b L) L ≡ []) ↔ (laid rooms b L ≡ after b L)
-  ended-after b rooms = (λ e. laid-after b rooms ∙ whole (total rooms) (after b L) (sym (left-after b rooms) ∙ e), λ e. left-after b rooms ∙ over (total rooms) (after b L) (sym (laid-after b rooms) ∙ e))
-    where
-      whole : (n : ℕ) (M : List (List ℕ)) → drop n M ≡ [] → take n M ≡ M
-      whole n M e = sym (append-nil (take n M)) ∙ rw e at (take-append-drop n M)
-
-      over : (n : ℕ) (M : List (List ℕ)) → take n M ≡ M → drop n M ≡ []
-      over n M e = let h : length M ≤ n = omega (arith, simp length-take at (ap length e)) in drop-of-length-le M h
-
   -- ended exactly if no chain of the list follows the last one handed over
   pub ended-iff : (r : ℕ) (b : List ℕ) → (endedAfter r b L ≡ true) ↔ (after (lastOr b (portion r b L)) L ≡ [])
   ended-iff r b = (λ e. after-portion b r ∙ drop-of-length-le (after b L) (leb-true (length (after b L)) r e), λ e. le-leb (length (after b L)) r (few (sym (after-portion b r) ∙ e)))
@@ -90,13 +75,6 @@ module _ (L : List (List ℕ)) (rises : Rising Before L) where
     pub left-all : (rooms : List ℕ) → after (left rooms [] L) L ≡ drop (total rooms) L
     left-all rooms = left-after [] rooms ∙ ap (drop (total rooms)) (after-all [] L real)
 
-    pub ended-all : (rooms : List ℕ) → (after (left rooms [] L) L ≡ []) ↔ (laid rooms [] L ≡ L)
-    ended-all rooms = rw (after-all [] L real) at (ended-after [] rooms)
-
-  -- from a chain of the list that nobody need have handed out: the list is what comes up to and with it, and then the portions
-  pub laid-from : (b : List ℕ) → b ∈ L → (lo : List (List ℕ)) × (L ≡ lo ++ b ∷ after b L) × ((rooms : List ℕ) → laid rooms b L ≡ take (total rooms) (after b L))
-  laid-from b m = let q = after-part b L rises m in (q .0, q .1, laid-after b)
-
 -- with room for one, a portion is empty only where nothing is left
 pub portion-empty : (r : ℕ) (b : List ℕ) (L : List (List ℕ)) → 1 ≤ r → portion r b L ≡ [] → after b L ≡ []
 portion-empty r b L h e = go r (after b L) h e
@@ -114,12 +92,3 @@ module _ (g : Graph) (rows : (p : ℕ) → Rising _<_ (g p)) (s t k : ℕ) where
 
   pub portions : (rooms : List ℕ) → laid rooms [] (listing g s t k) ≡ take (total rooms) (listing g s t k)
   portions = laid-all (listing g s t k) (ordered g rows s t k) real-chains
-
-  pub portions-after : (b : List ℕ) (rooms : List ℕ) → laid rooms b (listing g s t k) ≡ take (total rooms) (after b (listing g s t k))
-  portions-after = laid-after (listing g s t k) (ordered g rows s t k)
-
-  pub portions-rest : (rooms : List ℕ) → after (left rooms [] (listing g s t k)) (listing g s t k) ≡ drop (total rooms) (listing g s t k)
-  portions-rest = left-all (listing g s t k) (ordered g rows s t k) real-chains
-
-  pub portions-ended : (rooms : List ℕ) → (after (left rooms [] (listing g s t k)) (listing g s t k) ≡ []) ↔ (laid rooms [] (listing g s t k) ≡ listing g s t k)
-  portions-ended = ended-all (listing g s t k) (ordered g rows s t k) real-chains

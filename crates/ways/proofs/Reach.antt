@@ -2,34 +2,22 @@
 use mathlib.Core.Path.{_≡_, refl, ap, subst}
 use mathlib.Core.Logic.{_≢_, _↔_, _⊎_, inl, inr}
 use mathlib.Core.List.{List, [], _∷_, List·Memᴰ·head, List·Memᴰ·tail, List·Memᴰ·not-nil, List·Memᴰ·cases-cons, List·Memᴰ·eq-of-singleton}
-use Prim.Native.Nat.{ℕ, zero, suc, _≤_, _<_, min}
+use Prim.Native.Nat.{ℕ, zero, suc, _≤_, _<_}
 use native.Mathlib.Omega.{arith}
 use native.Mathlib.Nat.{le-refl}
-use native.Mathlib.Decide.{ℕ-discrete, decLe}
+use native.Mathlib.Decide.{ℕ-discrete}
 use Rattle.ways.specs.Graph.{Graph, _∈_}
 use Rattle.ways.specs.Listing.{ways}
 use Rattle.ways.specs.Fewest.{Reach, here, link, Fewest}
-use Rattle.ways.proofs.Members.{Within}
 use Rattle.ways.proofs.Way.{Way, ends, goes, no-way, none}
 use Rattle.ways.proofs.Barrier.{way-more}
 
--- round by round
+-- within no hop there is t alone
 pub round-zero : (g : Graph) (t p : ℕ) → Reach g t 0 p ↔ (p ≡ t)
 round-zero g t p = (to, here)
   where
     to : Reach g t 0 p → p ≡ t
     to (here e) = e
-
-pub round-suc : (g : Graph) (t h p : ℕ) → Reach g t (suc h) p ↔ ((p ≡ t) ⊎ ((v : ℕ) × (v ∈ g p) × Reach g t h v))
-round-suc g t h p = (to, from)
-  where
-    to : Reach g t (suc h) p → (p ≡ t) ⊎ ((v : ℕ) × (v ∈ g p) × Reach g t h v)
-    to (here e) = inl e
-    to (link {v = v} m r) = inr (v, m, r)
-
-    from : (p ≡ t) ⊎ ((v : ℕ) × (v ∈ g p) × Reach g t h v) → Reach g t (suc h) p
-    from (inl e) = here e
-    from (inr r) = link (r .1) (r .2)
 
 module _ {g : Graph} {t : ℕ} where
   pub reach-more : {j h p : ℕ} → j ≤ h → Reach g t j p → Reach g t h p
@@ -74,7 +62,7 @@ dec-reach g t (suc h) p = go (ℕ-discrete p t) (dec-some (dec-reach g t h) (g p
     go (no n) (no o) = no (neither n o)
 
 module _ (g : Graph) (t : ℕ) where
-  -- the fewest hops are there where t is in reach, and are at most h just where t is in reach within h
+  -- the fewest hops are there where t is in reach
   pub reach-fewest : (h p : ℕ) → Reach g t h p → (d : ℕ) × (d ≤ h) × Fewest g t d p
   reach-fewest zero p r = (0, le-refl 0, record { reach = r; least = λ j l. absurd (omega arith) })
   reach-fewest (suc h) p r = go (dec-reach g t h p) (λ q. reach-fewest h p q)
@@ -83,19 +71,9 @@ module _ (g : Graph) (t : ℕ) where
       go (yes q) on = let f = on q in (f .0, omega arith, f .2)
       go (no n) on = (suc h, le-refl (suc h), record { reach = r; least = λ j l q. n (reach-more (let i : j ≤ h = omega arith in i) q) })
 
-  pub fewest-iff : (d h p : ℕ) → Fewest g t d p → (d ≤ h) ↔ Reach g t h p
-  fewest-iff d h p f = (λ l. reach-more l (f .reach), λ r. go r (decLe d h))
-    where
-      go : Reach g t h p → Dec (d ≤ h) → d ≤ h
-      go r (yes l) = l
-      go r (no n) = absurd (f .least h (omega arith) r)
-
-  -- nobody has a way within fewer hops than the fewest
+  -- who does not reach t within j hops has no way within j, whoever was seen
   pub none-near : (j p : ℕ) (seen : List ℕ) → ¬ Reach g t j p → ways g t j seen p ≡ []
   none-near j p seen n = none g t j p seen (λ w r. n (way-reach r))
-
-  pub none-fewer : (d j p : ℕ) (seen : List ℕ) → Fewest g t d p → j < d → ways g t j seen p ≡ []
-  none-fewer d j p seen f l = none-near j p seen (f .least j l)
 
   -- a walk of the fewest hops passes nobody twice: it passes persons ever nearer to t, and none of those seen, who are farther
   pub short-way : (h p : ℕ) (seen : List ℕ) → Reach g t (suc h) p → ¬ Reach g t h p → ((x : ℕ) → x ∈ seen → ¬ Reach g t h x) → (w : List ℕ) × Way g t (suc h) seen p w
@@ -122,19 +100,13 @@ module _ (g : Graph) (t : ℕ) where
           let w = short-way d p (p ∷ []) (f .reach) far (λ x m q. far (subst (Reach g t d) (List·Memᴰ·eq-of-singleton m) q)) in
           (w .0, way-more l (λ x m. m) (w .1))
 
-  -- t is in reach of p within h just where there is a way, past p or not
-  pub reach-within : (h p : ℕ) (seen : List ℕ) → Within seen (p ∷ []) → p ≢ t → Reach g t h p ↔ (ways g t h seen p ≢ [])
-  reach-within h p seen i n = (λ r e. let w = reach-way h p n r in no-way e (w .0) (way-more (le-refl h) i (w .1)), λ q. go q (dec-reach g t h p))
-    where
-      go : ways g t h seen p ≢ [] → Dec (Reach g t h p) → Reach g t h p
-      go q (yes r) = r
-      go q (no o) = absurd (q (none-near h p seen o))
-
+  -- t is in reach of p within h just where there is a way
   pub reach-iff : (h p : ℕ) → p ≢ t → Reach g t h p ↔ (ways g t h (p ∷ []) p ≢ [])
-  reach-iff h p = reach-within h p (p ∷ []) (λ x m. m)
-
-  pub reach-iff-nil : (h p : ℕ) → p ≢ t → Reach g t h p ↔ (ways g t h [] p ≢ [])
-  reach-iff-nil h p = reach-within h p [] (λ x m. absurd (List·Memᴰ·not-nil m))
+  reach-iff h p n = (λ r e. let w = reach-way h p n r in no-way e (w .0) (w .1), λ q. go q (dec-reach g t h p))
+    where
+      go : ways g t h (p ∷ []) p ≢ [] → Dec (Reach g t h p) → Reach g t h p
+      go q (yes r) = r
+      go q (no o) = absurd (q (none-near h p (p ∷ []) o))
 
 -- numbers that are 0 at t and fall by at most one along each link are at most the fewest hops: all that leaving out needs of them
 pub reach-steps : {g : Graph} {t : ℕ} (b : ℕ → ℕ) → b t ≡ 0 → ((u v : ℕ) → v ∈ g u → b u ≤ suc (b v)) → {j p : ℕ} → Reach g t j p → b p ≤ j
@@ -143,7 +115,3 @@ reach-steps b z c (link {p = p} {v = v} m r) = omega (arith, c p v m, reach-step
 
 pub steps-far : (g : Graph) (t : ℕ) (b : ℕ → ℕ) → b t ≡ 0 → ((u v : ℕ) → v ∈ g u → b u ≤ suc (b v)) → (u j : ℕ) → j < b u → ¬ Reach g t j u
 steps-far g t b z c u j l r = let h = reach-steps b z c r in omega arith
-
--- cut off at m they still are so
-pub steps-cut : (g : Graph) (b : ℕ → ℕ) (m : ℕ) → ((u v : ℕ) → v ∈ g u → b u ≤ suc (b v)) → (u v : ℕ) → v ∈ g u → min (b u) m ≤ suc (min (b v) m)
-steps-cut g b m c u v i = omega (arith, c u v i)

@@ -41,10 +41,6 @@ listing-few g s t k c m = let q = Memᴰ·of-map (_∷_ s) (ways g t k (s ∷ []
 pub listing-fits : (g : Graph) (s t k size : ℕ) → k + 2 ≤ size → (c : List ℕ) → c ∈ listing g s t k → Fits size c
 listing-fits g s t k size h c m = let a = listing-some g s t k c m in let b = listing-few g s t k c m in let e = length-hops c a in record { some = a; room = omega arith }
 
-pub chain-fits : {g : Graph} {s t k : ℕ} {c : List ℕ} (size : ℕ) → k + 2 ≤ size → Chain g s t k c → Fits size c
-chain-fits {c = []} size h r = absurd (r .first)
-chain-fits {c = p ∷ c} size h r = record { some = omega arith; room = omega arith }
-
 -- one record
 pub chainOf-recordOf : (size : ℕ) (c : List ℕ) → 1 ≤ length c → chainOf (recordOf size c) ≡ c
 unfolding chainOf recordOf

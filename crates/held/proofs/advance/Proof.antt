@@ -70,15 +70,12 @@ stayed = (stay-ref (0 ∷ []) tt (plain (λ _. T.the-row)), (stay-none-slice (1 
 abbrev MovedC : {M : Type 1} (𝓤 : URA M) (H : Heap 𝓤) (A : Atoms 𝓤) (at-mem : Memory → SProp 𝓤) (run : Routine → Fun 𝓤) → Contract 𝓤
 MovedC 𝓤 H A at-mem run = tripleOf 𝓤 H A moved.signature (moved.spec 𝓤 H A at-mem run)
 
--- the machine values of a held listing, of an answer, and of what `moved` returns
+-- the machine values of a held listing and of an answer
 abbrev mach : Held → Val
 mach h = LL.val T.the-type T′.the-laws h
 
 abbrev answer-mach : Answer → Val
 answer-mach p = EL.val P.the-type P′.the-laws p
-
-abbrev moved-mach : Outcome → Val
-moved-mach r = LL.val R.the-type R′.the-laws r
 
 module _ {M : Type 1} (𝓤 : URA M) (H : Heap 𝓤) (A : Atoms 𝓤) (W : Given 𝓤 H A) (at-mem : Memory → SProp 𝓤) (run : Routine → Fun 𝓤) (κ κ₁ κ₂ : Lft) (q q₁ q₂ : Share)
     (b o : ℕ) (γ : GName) (h : Held) (b₁ o₁ : ℕ) (γ₁ : GName) (fs : List ℕ) (b₂ o₂ : ℕ) (γ₂ : GName) (ys : List ℕ) where

@@ -1,8 +1,8 @@
 -- The half chains are counted, then written, and the chains gathered: each call gives what the next one asks.
 use borrow.Author.Needs.{needs}
-use mathlib.Core.Path.{refl, sym, _∙_}
+use mathlib.Core.Path.{sym, ap, _∙_}
 use Prim.Native.Nat.{ℕ, suc}
-use lib.ListN.{length-replicate}
+use lib.ListN.{length, length-set, length-replicate}
 use Rattle.half_chains.specs.Shelf.{placesAtMost}
 use Rattle.join.proofs.Face.{graph-shelve, graph-refused, graph-gather, graph-joined}
 use Rattle.join.proofs.join_graph.Statement.{statement}
@@ -14,7 +14,7 @@ slice-aggregate-shelve-2 c = sym (c .before .before .lone .ensures .long)
 shelve-requires : tie.Need-shelve-requires
 shelve-requires c κs =
     let at-start = c .before .before .before .before .before .before .before .before .before in
-    graph-shelve (at-start .pre) (c .before .before .before .before .before .lone .ensures) refl (length-replicate {A = ℕ} (suc placesAtMost) 0)
+    graph-shelve (at-start .pre) (c .before .before .before .before .before .lone .ensures) (simp (length-set, length-replicate)) (length-replicate {A = ℕ} (suc placesAtMost) 0)
 
 returns : tie.Need-returns
 returns c =
@@ -32,7 +32,7 @@ shelve-requires-2 c κs =
     let at-start = c .before .before .before .before .before .before .before .before .before .before .before .before .before .before .before .before .before .before .before .before in
     let at-lone = c .before .before .before .before .before .before .before .before .before .before .before .before .before .before .before .before .lone in
     let at-shelve = c .before .before .before .before .before .before .before .before .before .before .shelve in
-    graph-shelve (at-start .pre) (at-lone .ensures) (at-shelve .ensures .same) (at-shelve .kept .1 .1 .1 .1 .1 .0 ∙ length-replicate {A = ℕ} (suc placesAtMost) 0)
+    graph-shelve (at-start .pre) (at-lone .ensures) (ap length (at-shelve .ensures .same) ∙ simp (length-set, length-replicate)) (at-shelve .kept .1 .1 .1 .1 .1 .0 ∙ length-replicate {A = ℕ} (suc placesAtMost) 0)
 
 gather-requires : tie.Need-gather-requires
 gather-requires c κs =

@@ -1,6 +1,7 @@
 -- `end_line` prints its parts one behind the other.
+use mathlib.Core.Path.{_∙_}
 use native.Mathlib.Omega.{arith}
-use Rattle.text.proofs.Printing.{printed-length}
+use lib.ListN.{length-set}
 use Rattle.text.proofs.Lining.{end-done}
 use borrow.Author.Needs.{needs}
 use Rattle.text.proofs.end_line.Statement.{statement}
@@ -23,7 +24,7 @@ add-result : tie.Need-add-result
 add-result c = omega (arith, c .before .before .count .ensures .1, c .before .before .before .before .before .before .put .ensures .place)
 
 same-length : tie.Need-same-length
-same-length c = printed-length (end-done _ (c .before .before .before .before .before .before .put .ensures) (c .before .before .count .ensures .0))
+same-length c = simp length-set (c .before .before .count .kept .1 .0 ∙ c .before .before .before .before .before .before .put .kept .1 .0)
 
 returns : tie.Need-returns
 returns c =

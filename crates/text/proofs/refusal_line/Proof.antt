@@ -1,5 +1,7 @@
 -- `refusal_line` prints its parts one behind the other.
+use mathlib.Core.Path.{_∙_}
 use native.Mathlib.Omega.{arith}
+use lib.ListN.{length-set}
 use Rattle.text.proofs.Printing.{printed-length}
 use Rattle.text.proofs.Spelling.{number-length}
 use Rattle.text.proofs.Lining.{refusal-done}
@@ -46,10 +48,9 @@ add-result c =
 
 same-length : tie.Need-same-length
 same-length c =
-    let at-start = c .before .before .before .before .before .before .before .before .before .before .before .before .before .before .before .before .before .before .before in
     let at-put = c .before .before .before .before .before .before .before .before .before .before .before .before .before .before .before .put in
     let at-number = c .before .before .before .before .before .before .before .before .before .before .before .number in
-    printed-length (refusal-done (at-start .args .number) (at-start .args .place) (at-put .ensures) (at-number .ensures) (c .before .before .before .before .before .before .put2 .ensures) (c .before .before .number2 .ensures))
+    simp length-set (c .before .before .number2 .kept .1 .0 ∙ c .before .before .before .before .before .before .put2 .kept .1 .0 ∙ at-number .kept .1 .0 ∙ at-put .kept .1 .0)
 
 returns : tie.Need-returns
 returns c =

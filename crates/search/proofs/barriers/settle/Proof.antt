@@ -1,5 +1,6 @@
 -- `settle` raises or undoes, and says which.
-use Rattle.search.proofs.Pruning.{settle-raised, settle-undone, settle-undo}
+use native.Mathlib.Omega.{arith}
+use Rattle.search.proofs.Pruning.{settle-raised, settle-undone}
 use borrow.Author.Needs.{needs}
 use Rattle.search.proofs.barriers.settle.Statement.{statement}
 use Rattle.search.proofs.barriers.settle.Tie as tie
@@ -11,7 +12,9 @@ returns : tie.Need-returns
 returns c = settle-raised (c .before .before .before .before .barren .ensures (c .before .before .before .if1 .taken)) (c .raise .ensures)
 
 undo-requires : tie.Need-undo-requires
-undo-requires c κs = settle-undo (c .before .before .before .before .pre)
+undo-requires c κs =
+    let pre = c .before .before .before .before .pre in
+    record { wide = pre .raising .wide; room = pre .raising .room; rise = omega (arith, pre .rise); fits = pre .raising .fits }
 
 returns-2 : tie.Need-returns-2
 returns-2 c = settle-undone (c .undo .ensures)

@@ -137,7 +137,7 @@ enter-settle-requires t c κs =
     let at-if2 = c .before .before .before .before .before .before .before .before .before .before .before .before .before .before .before .before .before .if2 in
     let at-if4 = c .before .before .before .before .before .before .before .before .before .before .before .before .before .before .before .if4 in
     let at-if5 = c .before .before .before .before .before .before .before .before .before .before .before .before .if5 in
-    enter-settling (at-start .pre .1) (at-if2 .left) (at-if4 .left) (at-if5 .left) (c .before .before .before .before .go-through .ensures)
+    enter-settling (at-start .pre .1) (at-if2 .left) (at-if4 .left) (at-if5 .left) (c .before .before .before .before .go-through .ensures) (omega (arith, at-start .pre .1 .short))
 
 enter-returns-7 : (t : ℕ) → enter-lts.Need-returns-7 (enter-calls t) (enter-at t) enter.Post
 enter-returns-7 t c =
