@@ -14,7 +14,6 @@ use Rattle.ways.proofs.Listed.{exact}
 use Rattle.ways.proofs.Ordered.{once-each, determined}
 use Rattle.ways.proofs.ByHops.{byHops-iff, byHops-ordered, byHops-once}
 use Rattle.ways.proofs.Halves.{halves-exact, halves-ordered}
-use Rattle.ways.specs.Records.{written}
 use Rattle.ways.specs.Sizes.{recordSize}
 use Rattle.question.specs.declared.Question.{Question}
 use Rattle.question.specs.Asked.{askedFault}
@@ -25,8 +24,7 @@ use Rattle.portion.specs.Answers.{Portioned}
 use Rattle.portion.specs.declared.Answer.{Answer}
 use Rattle.portion.proofs.Starting.{asked-proper}
 use Rattle.portion.proofs.Known.{rows, rises, fresh-all, passes}
-use Rattle.join.specs.Lists.{halvesFor, chainsFor, halvesFault, joinFault}
-use Rattle.join.specs.Answers.{Joins}
+use Rattle.join.specs.Lists.{halvesFor, joinFault}
 use Rattle.demands.specs.Paths.{Reached, SimplePath, HalfPath}
 use Rattle.demands.specs.Demands.{Lists, Fitting, JoinRoute, DemandTwo}
 
