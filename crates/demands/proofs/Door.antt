@@ -4,12 +4,12 @@ use mathlib.Core.Bool.{Bool, true, false}
 use mathlib.Core.List.{List, [], _∷_}
 use Prim.Native.Nat.{ℕ, _+_, _*_, _-_, _^_, _≤_, _<_}
 use native.Mathlib.Omega.{arith}
-use lib.ListN.{length, take, drop, length-take, length-drop}
+use lib.ListN.{length, drop, length-take, length-drop}
 use lib.Dec.{eqb}
 use borrow.Author.Tests.{eqb-true, eqb-false}
 use Rattle.linkfile.specs.Format.{personCount, linkCount, feedCount}
 use Rattle.linkfile.specs.Verdict as verdict
-use Rattle.linkfile.specs.Verdict.{Fault, sound, fault, firstOf, Numbered}
+use Rattle.linkfile.specs.Verdict.{Fault, sound, fault, firstOf, NumberedFrom, Numbered}
 use Rattle.linkfile.specs.Checked.{fileFault, checked}
 use Rattle.linkfile.specs.Rows.{viewStart, viewEnd}
 use Rattle.linkfile.proofs.Faults.{first-both}
@@ -47,33 +47,25 @@ use Rattle.outside.proofs.HeldCells.{held-kept, movedTo, held-back}
 use Rattle.outside.proofs.TakenApart.{refusal-apart, listed-apart, counts-apart}
 use Rattle.demands.specs.Paths.{FewestFrom}
 use Rattle.demands.specs.Door.{Tells, NothingLent, Listed, sizeFault, heldFault, AtTheDoor}
+use Rattle.demands.proofs.Ending.{viewBy}
 use Rattle.demands.proofs.Fewest.{fewest-from}
 
--- the numbers of a fault lie between these, and have room in an answer
-abbrev Between : ℕ → ℕ → Fault → Type 0
-Between lowest last sound = Unit {0}
-Between lowest last (fault number place) = (lowest ≤ number) × (number ≤ last) × (place < 2 ^ 32)
-
-numbered-between : (last : ℕ) (f : Fault) → Numbered last f → Between 1 last f
-numbered-between last sound n = tt
-numbered-between last (fault number place) n = n
-
 -- what a number tells by the first fault
-tells : (first : Fault) (lowest last : ℕ) {answer : ℕ} {Unchanged Answers : Type 0} → last ≤ 18 → Between lowest last first → (first ≡ sound → (answer < 2 ^ 63) × Answers)
+tells : (first : Fault) (lowest last : ℕ) {answer : ℕ} {Unchanged Answers : Type 0} → last ≤ 18 → NumberedFrom lowest last first → (first ≡ sound → (answer < 2 ^ 63) × Answers)
     → ((number place : ℕ) → first ≡ fault number place → (answer ≡ refusalNumber number place) × Unchanged) → Tells first lowest last answer Unchanged Answers
-tells sound lowest last few between passes fails =
+tells sound lowest last few numbered passes fails =
     record {
       refused = (λ h. absurd (let b = passes refl .0 in omega arith), λ n. absurd (n refl));
       apart = λ number place e. let z : _≡_ {A = ℕ} 0 1 = cc in absurd (omega arith);
       unchanged = λ h. absurd (let b = passes refl .0 in omega arith);
       answers = λ e. passes refl .1;
     }
-tells (fault r p) lowest last few between passes fails =
+tells (fault r p) lowest last few numbered passes fails =
     let told = fails r p refl in
-    let parts = refusal-apart r p (omega (arith, between .1)) (between .2) in
+    let parts = refusal-apart r p (omega (arith, numbered .1)) (numbered .2) in
     record {
       refused = (λ h e. let z : _≡_ {A = ℕ} 0 1 = cc in omega arith, λ n. omega (arith, told .0));
-      apart = λ number place e. let same : r ≡ number = cc in let there : p ≡ place = cc in (rw (told .0) (parts .0) ∙ same, rw (told .0) (parts .1) ∙ there, omega (arith, between .0), omega (arith, between .1));
+      apart = λ number place e. let same : r ≡ number = cc in let there : p ≡ place = cc in (rw (told .0) (parts .0) ∙ same, rw (told .0) (parts .1) ∙ there, omega (arith, numbered .0), omega (arith, numbered .1));
       unchanged = λ h. told .1;
       answers = λ e. let z : _≡_ {A = ℕ} 0 1 = cc in absurd (omega arith);
     }
@@ -82,7 +74,7 @@ kin-check : (file : List ℕ) {answer : ℕ} → CheckNumber file answer
     → Tells (fileFault file) 1 9 answer NothingLent ((personsIn answer ≡ personCount file) × (linksIn answer ≡ linkCount file) × (feedsIn answer ≡ feedCount file))
 unfolding checked
 kin-check file {answer} is =
-    tells (fileFault file) 1 9 (omega arith) (numbered-between 9 (fileFault file) (file-numbered file))
+    tells (fileFault file) 1 9 (omega arith) (file-numbered file)
     (λ e.
     let fit = passed-fits (sound-rules file e) in
     let told : answer ≡ personCount file + linkCount file * 2 ^ 16 + feedCount file * 2 ^ 32 = is ∙ rw e in
@@ -94,12 +86,7 @@ kin-row : (file : List ℕ) (person : ℕ) {answer : ℕ} → RowNumber file per
 unfolding checked
 kin-row file person is = omega (arith, is, go (fileFault file) refl)
   where
-    shown : Fault → List ℕ
-    shown first =
-        let said = verdict.verdict first (personCount file) (linkCount file) (feedCount file) in
-        take (viewEnd said file person - viewStart said file person) (drop (viewStart said file person) file)
-
-    go : (first : Fault) → fileFault file ≡ first → length (shown first) < 2 ^ 63
+    go : (first : Fault) → fileFault file ≡ first → length (viewBy file person first) < 2 ^ 63
     go (fault number place) e = omega arith
     go sound e =
         let rules = sound-rules file e in
@@ -113,7 +100,7 @@ kin-fewest : (file : List ℕ) (q : Question) (person : ℕ) {answer : ℕ} → 
 unfolding distance.answered
 kin-fewest file q person {answer} is =
     let first = firstOf (fileFault file) (personFault (personCount file) q person) in
-    tells first 1 15 (omega arith) (numbered-between 15 first (person-numbered file q person))
+    tells first 1 15 (omega arith) (person-numbered file q person)
     (λ e.
     let proper = person-proper (personCount file) q person (first-both (fileFault file) (personFault (personCount file) q person) e .1) .0 in
     let told : answer ≡ fewest (next file q) (q .to) (q .hops) person = is ∙ rw e in
@@ -124,7 +111,7 @@ kin-fewest file q person {answer} is =
 listing-tells : (first : Fault) (last count : ℕ) (ended : Bool) {said : Answer} {answer : ℕ} {Unchanged : Type 0} → last ≤ 18 → Numbered last first → said ≡ answerFor first count ended → Small said → answer ≡ listedNumber said
     → ((number place : ℕ) → first ≡ fault number place → Unchanged) → Tells first 1 last answer Unchanged (Listed answer count ended)
 listing-tells first last count ended {said} {answer} few numbered is small told unchanged =
-    tells first 1 last few (numbered-between last first numbered)
+    tells first 1 last few numbered
     (λ e.
     let listing : said ≡ listed count ended = is ∙ rw e in
     let number : answer ≡ count + endedNumber ended * 2 ^ 62 = told ∙ rw listing in
@@ -161,6 +148,16 @@ module _ {file cells cells′ out out′ : List ℕ} {answer : ℕ} (whole : len
       (Listed answer (length (portionFor file (heldOf cells .question) (startOf (heldOf cells)) out)) (endedFor file (heldOf cells .question) (startOf (heldOf cells)) out))
   moved-tells = portion-tells (m .moves .portioned) (m .small) (m .answers) refused-stays
 
+  -- a portion of no chains leaves them too
+  none-stays : countIn answer ≡ 0 → (cells′ ≡ cells) × (out′ ≡ out)
+  unfolding written cellsOf
+  none-stays zero = go (portionFault file (heldOf cells .question) (startOf (heldOf cells)) out) refl (portionFor file (heldOf cells .question) (startOf (heldOf cells)) out) refl
+    where
+      go : (f : Fault) → portionFault file (heldOf cells .question) (startOf (heldOf cells)) out ≡ f → (P : List (List ℕ)) → portionFor file (heldOf cells .question) (startOf (heldOf cells)) out ≡ P → (cells′ ≡ cells) × (out′ ≡ out)
+      go (fault number place) e P i = refused-stays number place e
+      go sound e [] i = (unmoved (m .moves .keeps ∙ rw (e, i)), m .moves .portioned .cells ∙ rw (e, i))
+      go sound e (c ∷ P) i = absurd (omega (arith, zero, moved-tells .answers e .0, ap length i))
+
   -- whichever way it went: no chains, or some, of which the last is kept
   stays-or-moves : (f : Fault) → portionFault file (heldOf cells .question) (startOf (heldOf cells)) out ≡ f → (P : List (List ℕ)) → portionFor file (heldOf cells .question) (startOf (heldOf cells)) out ≡ P → heldOf cells′ ≡ m .held
   stays-or-moves (fault number place) e P i = let same : m .held ≡ heldOf cells = m .moves .keeps ∙ rw e in ap heldOf (unmoved same) ∙ sym same
@@ -179,17 +176,7 @@ module _ {file cells cells′ out out′ : List ℕ} {answer : ℕ} (whole : len
       let same = stays-or-moves (portionFault file (heldOf cells .question) (startOf (heldOf cells)) out) refl (portionFor file (heldOf cells .question) (startOf (heldOf cells)) out) refl in
       subst (λ (h : Held). MovedOn file (heldOf cells) h out out′ (m .answer)) (sym same) (m .moves)
 
-  -- so does a portion of no chains
-  none-stays : countIn answer ≡ 0 → (cells′ ≡ cells) × (out′ ≡ out)
-  unfolding written cellsOf
-  none-stays zero = go (portionFault file (heldOf cells .question) (startOf (heldOf cells)) out) refl (portionFor file (heldOf cells .question) (startOf (heldOf cells)) out) refl
-    where
-      go : (f : Fault) → portionFault file (heldOf cells .question) (startOf (heldOf cells)) out ≡ f → (P : List (List ℕ)) → portionFor file (heldOf cells .question) (startOf (heldOf cells)) out ≡ P → (cells′ ≡ cells) × (out′ ≡ out)
-      go (fault number place) e P i = refused-stays number place e
-      go sound e [] i = (unmoved (m .moves .keeps ∙ rw (e, i)), m .moves .portioned .cells ∙ rw (e, i))
-      go sound e (c ∷ P) i = absurd (omega (arith, zero, moved-tells .answers e .0, ap length i))
-
--- a wrong size counts as number 0
+-- the lowest number is 0 where a wrong size counts too
 tells-lower : {first : Fault} {last answer : ℕ} {Unchanged Answers : Type 0} → Tells first 1 last answer Unchanged Answers → Tells first 0 last answer Unchanged Answers
 tells-lower t =
     record {

@@ -49,17 +49,18 @@ check-ends file answer is =
     ends-by verdict.refused (λ f. verdict.verdict f (personCount file) (linkCount file) (feedCount file)) (λ number place. refl)
     (λ number place e. let z : _≡_ {A = ℕ} 0 1 = cc in omega arith) (fileFault file) 9 (file-numbered file) is
 
--- the row view of a refused file, or of a person out of range
+-- the row view by the first fault of the file
+abbrev pub viewBy : List ℕ → ℕ → Fault → List ℕ
+viewBy file person first =
+    let said = verdict.verdict first (personCount file) (linkCount file) (feedCount file) in
+    take (viewEnd said file person - viewStart said file person) (drop (viewStart said file person) file)
+
+-- that of a refused file, or of a person out of range
 row-ends : (file view : RefT (List ℕ)) (person : ℕ) → Views file person view → (fileFault (now file) ≢ sound) ⊎ (personCount (now file) ≤ person) → now view ≡ []
 unfolding checked
 row-ends file view person v why = v .bytes ∙ go (fileFault (now file)) why
   where
-    shown : Fault → List ℕ
-    shown first =
-        let said = verdict.verdict first (personCount (now file)) (linkCount (now file)) (feedCount (now file)) in
-        take (viewEnd said (now file) person - viewStart said (now file) person) (drop (viewStart said (now file) person) (now file))
-
-    go : (first : Fault) → (first ≢ sound) ⊎ (personCount (now file) ≤ person) → shown first ≡ []
+    go : (first : Fault) → (first ≢ sound) ⊎ (personCount (now file) ≤ person) → viewBy (now file) person first ≡ []
     go (fault number place) why = refl
     go sound (inl n) = absurd (n refl)
     go sound (inr h) = rw (le-ltb person (personCount (now file)) h)

@@ -28,10 +28,14 @@ unfoldable pub firstAmong : (ℕ → Fault) → ℕ → ℕ → Fault
 firstAmong look from zero = sound
 firstAmong look from (suc count) = firstOf (look from) (firstAmong look (suc from) count)
 
--- a fault, if there is one, has one of the numbers from 1 to the last, and a place of 32 bits
+-- a fault, if there is one, has one of the numbers from the lowest to the last, and a place of 32 bits
+abbrev pub NumberedFrom : ℕ → ℕ → Fault → Type 0
+NumberedFrom lowest last sound = Unit {0}
+NumberedFrom lowest last (fault number place) = (lowest ≤ number) × (number ≤ last) × (place < 2 ^ 32)
+
+-- the customer's numbers start at 1
 abbrev pub Numbered : ℕ → Fault → Type 0
-Numbered last sound = Unit {0}
-Numbered last (fault number place) = (1 ≤ number) × (number ≤ last) × (place < 2 ^ 32)
+Numbered last = NumberedFrom 1 last
 
 -- for every list of bytes: passed with n, m, f, or refused with number and place
 pub data Verdict : Type 0 where

@@ -2,7 +2,7 @@
 use mathlib.Core.Path.{_≡_, refl, sym, ap, ap₂, subst, _∙_}
 use mathlib.Core.Logic.{_≢_}
 use mathlib.Core.List.{List, [], _∷_, _++_}
-use Prim.Native.Nat.{ℕ, zero, suc, _*_, _≤_}
+use Prim.Native.Nat.{ℕ, _*_, _≤_}
 use native.Mathlib.Omega.{arith}
 use lib.ListN.{length, take, drop}
 use lib.Seq.{take-at, take-add}
@@ -12,7 +12,7 @@ use Rattle.ways.specs.Graph.{_∈_}
 use Rattle.ways.specs.Portions.{after, lastOr}
 use Rattle.ways.specs.Records.{chainOf, cellsOf, written, isRecordIn}
 use Rattle.ways.specs.Sizes.{recordSize}
-use Rattle.ways.proofs.Portions.{after-portion, ended-iff}
+use Rattle.ways.proofs.Portions.{after-portion, ended-iff, portion-empty}
 use Rattle.ways.proofs.After.{after-part}
 use Rattle.ways.proofs.Records.{length-cellsOf, cellsOf-append, isRecordIn-iff}
 use Rattle.question.specs.declared.Question.{Question}
@@ -46,11 +46,9 @@ module _ (file : List ℕ) (q : Question) (asked : askedFault file q ≡ sound) 
   behind start [] rest s inside = record { mark = refl; passing = s }
   behind start (c ∷ P) rest s inside = let k = last-kept file q asked (startsAfter start) (c ∷ P) rest (omega arith) inside in record { mark = k .mark; passing = k .passing }
 
-  -- with room for one, one is taken where there is one
-  some-taken : (r : ℕ) (left : List (List ℕ)) → 1 ≤ r → left ≢ [] → 1 ≤ length (take r left)
-  some-taken zero left h n = absurd (omega arith)
-  some-taken (suc r) [] h n = absurd (n refl)
-  some-taken (suc r) (c ∷ left) h n = omega arith
+  at-least-one : (P : List (List ℕ)) → P ≢ [] → 1 ≤ length P
+  at-least-one [] some = absurd (some refl)
+  at-least-one (c ∷ P) some = omega arith
 
   -- what comes after the start is left when the run starts
   run-laid : (calls : List Call) (start : Start) → startFault (listingFor file q) start ≡ sound → Run file q start calls → Laid (after (startsAfter start) (listingFor file q)) calls
@@ -70,7 +68,7 @@ module _ (file : List ℕ) (q : Question) (asked : askedFault file q ≡ sound) 
       let one : 1 ≤ roomIn c = omega (arith, h) in
       record {
         cells = ap₂ _++_ (wrote-cells p none) (rest .cells) ∙ sym (cellsOf-append recordSize P (take (allRoom calls) (drop (roomIn c) left))) ∙ ap (cellsOf recordSize) (sym (take-add (roomIn c) (allRoom calls) left));
-        brings = (ap countOf is, (λ some. rw (is) (some-taken (roomIn c) left one some)), rest .brings);
+        brings = (ap countOf is, (λ some. rw is (at-least-one P (λ none. some (portion-empty (roomIn c) (startsAfter start) L one none)))), rest .brings);
         ends = ((λ e. sym follows ∙ ended .0 (sym (ap saysEnded is) ∙ e), λ e. ap saysEnded is ∙ ended .1 (follows ∙ e)), rest .ends);
       }
 
