@@ -10,6 +10,12 @@ ghost use lib.Seq.{paste};
 ghost use Rattle.ways.specs.Sizes.{recordSize};
 use ways::RECORD;
 
+// What was handed over: so many chains, and whether there is one more than there is room for (1) or none (0).
+pub struct HandedOver {
+    pub count: usize,
+    pub more: usize,
+}
+
 // Copies the cells of the chain to `out`, from cell `at` on.
 pub fn put(out: &mut [u32], at: usize, chain: [u32; RECORD])
     requires { ⌜ at + recordSize ≤ length (now out) ⌝ }

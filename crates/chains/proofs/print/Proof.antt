@@ -67,20 +67,6 @@ loop-again c =
 pub print-spec : {M : Type 1} → statement M
 print-spec =
     tie.close
-    (tie.spec
-    Inv-loop
-    μ-loop
-    (λ c κs. search needs)
-    loop-holds
-    next-page-requires
-    same-length
-    same-length-2
-    (λ c. search needs)
-    slice-reshare-prefix-write-all
-    slice-aggregate-write-all
-    (λ c κs. search needs)
-    same-length-3
-    same-length-4
-    (λ c. search needs)
-    loop-less
+    (tie.spec Inv-loop μ-loop (λ c κs. search needs) loop-holds next-page-requires same-length same-length-2 (λ c. search needs)
+    slice-reshare-prefix-write-all slice-aggregate-write-all (λ c κs. search needs) same-length-3 same-length-4 (λ c. search needs) loop-less
     loop-again)

@@ -47,16 +47,5 @@ returns c =
 pub counted-spec : {M : Type 1} → statement M
 counted-spec =
     tie.close
-    (tie.spec
-    counts-requires
-    (λ c. search needs)
-    (λ c. search needs)
-    fill-requires
-    (λ c. search needs)
-    (λ c. search needs)
-    (λ c. search needs)
-    cast-distances-2
-    distances-requires
-    array-read-result
-    (λ c. search needs)
-    returns)
+    (tie.spec counts-requires (λ c. search needs) (λ c. search needs) fill-requires (λ c. search needs) (λ c. search needs) (λ c. search needs)
+    cast-distances-2 distances-requires array-read-result (λ c. search needs) returns)

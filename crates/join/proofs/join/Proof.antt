@@ -43,17 +43,5 @@ returns-3 c =
 pub join-spec : {M : Type 1} → statement M
 join-spec =
     tie.close
-    (tie.spec
-    (λ c κs. search needs)
-    (λ c. search needs)
-    returns
-    (λ c. search needs)
-    returns-2
-    counts-requires
-    (λ c. search needs)
-    (λ c. search needs)
-    fill-requires
-    join-graph-requires
-    (λ c. search needs)
-    (λ c. search needs)
-    returns-3)
+    (tie.spec (λ c κs. search needs) (λ c. search needs) returns (λ c. search needs) returns-2 counts-requires (λ c. search needs) (λ c. search needs)
+    fill-requires join-graph-requires (λ c. search needs) (λ c. search needs) returns-3)

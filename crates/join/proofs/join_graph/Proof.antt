@@ -55,24 +55,6 @@ returns-2 c =
 pub join-graph-spec : {M : Type 1} → statement M
 join-graph-spec =
     tie.close
-    (tie.spec
-    (λ c. search needs)
-    (λ c. search needs)
-    (λ c κs. search needs)
-    (λ c. search needs)
-    (λ c. search needs)
-    (λ c. search needs)
-    slice-aggregate-shelve-2
-    (λ c. search needs)
-    shelve-requires
-    (λ c. search needs)
-    returns
-    (λ c. search needs)
-    slice-aggregate-shelve-5
-    (λ c. search needs)
-    shelve-requires-2
-    (λ c. search needs)
-    gather-requires
-    (λ c. search needs)
-    (λ c. search needs)
-    returns-2)
+    (tie.spec (λ c. search needs) (λ c. search needs) (λ c κs. search needs) (λ c. search needs) (λ c. search needs) (λ c. search needs)
+    slice-aggregate-shelve-2 (λ c. search needs) shelve-requires (λ c. search needs) returns (λ c. search needs) slice-aggregate-shelve-5
+    (λ c. search needs) shelve-requires-2 (λ c. search needs) gather-requires (λ c. search needs) (λ c. search needs) returns-2)

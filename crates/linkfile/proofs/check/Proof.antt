@@ -87,19 +87,5 @@ returns-5 c =
 pub check-spec : {M : Type 1} → statement M
 check-spec =
     tie.close
-    (tie.spec
-    (λ c κs. search needs)
-    returns
-    counts-fit-requires
-    returns-2
-    laid-out-requires
-    returns-3
-    counts-requires
-    (λ c κs. search needs)
-    (λ c. search needs)
-    returns-4
-    (λ c. search needs)
-    person-count-requires
-    link-count-requires
-    feed-count-requires
-    returns-5)
+    (tie.spec (λ c κs. search needs) returns counts-fit-requires returns-2 laid-out-requires returns-3 counts-requires (λ c κs. search needs)
+    (λ c. search needs) returns-4 (λ c. search needs) person-count-requires link-count-requires feed-count-requires returns-5)

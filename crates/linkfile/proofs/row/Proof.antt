@@ -72,25 +72,6 @@ returns-3 c =
 pub row-spec : {M : Type 1} → statement M
 row-spec =
     tie.close
-    (tie.spec
-    (λ c κs. search needs)
-    (λ c. search needs)
-    (λ c. search needs)
-    (λ c. search needs)
-    (λ c. search needs)
-    (λ c. search needs)
-    returns
-    (λ c. search needs)
-    (λ c. search needs)
-    (λ c. search needs)
-    returns-2
-    counts-requires
-    entry-requires
-    place-requires
-    (λ c. search needs)
-    entry-requires-2
-    place-requires-2
-    sub-result-3
-    part-result-start-3
-    part-result-end-3
-    returns-3)
+    (tie.spec (λ c κs. search needs) (λ c. search needs) (λ c. search needs) (λ c. search needs) (λ c. search needs) (λ c. search needs) returns
+    (λ c. search needs) (λ c. search needs) (λ c. search needs) returns-2 counts-requires entry-requires place-requires (λ c. search needs)
+    entry-requires-2 place-requires-2 sub-result-3 part-result-start-3 part-result-end-3 returns-3)

@@ -32,27 +32,7 @@ same-length c = simp length-set
 pub keep-spec : {M : Type 1} → statement M
 keep-spec =
     tie.close
-    (tie.spec
-    (λ c. search needs)
-    (λ c. search needs)
-    (λ c. search needs)
-    (λ c. search needs)
-    (λ c. search needs)
-    (λ c. search needs)
-    (λ c. search needs)
-    (λ c. search needs)
-    slice-write-cells-5
-    (λ c. search needs)
-    slice-write-cells-6
-    (λ c. search needs)
-    slice-write-cells-7
-    (λ c. search needs)
-    slice-write-cells-8
-    (λ c. search needs)
-    slice-write-cells-9
-    (λ c. search needs)
-    slice-write-cells-10
-    (λ c. search needs)
-    slice-write-cells-11
-    same-length
-    (λ c. search needs))
+    (tie.spec (λ c. search needs) (λ c. search needs) (λ c. search needs) (λ c. search needs) (λ c. search needs) (λ c. search needs)
+    (λ c. search needs) (λ c. search needs) slice-write-cells-5 (λ c. search needs) slice-write-cells-6 (λ c. search needs) slice-write-cells-7
+    (λ c. search needs) slice-write-cells-8 (λ c. search needs) slice-write-cells-9 (λ c. search needs) slice-write-cells-10 (λ c. search needs)
+    slice-write-cells-11 same-length (λ c. search needs))

@@ -27,21 +27,6 @@ returns-2 c = ap verdictNumber (sym (ap verdictSaid (c .before .number .given .1
 pub kin-check-spec : {M : Type 1} → statement M
 kin-check-spec =
     tie.close
-    (tie.spec
-    (λ c κs. search needs)
-    (λ c. search needs)
-    (λ c. search needs)
-    (λ c. search needs)
-    (λ c. search needs)
-    (λ c. search needs)
-    (λ c. search needs)
-    (λ c. search needs)
-    add-result-2
-    (λ c. search needs)
-    (λ c. search needs)
-    (λ c. search needs)
-    add-result-3
-    (λ c. search needs)
-    add-result-4
-    returns
-    returns-2)
+    (tie.spec (λ c κs. search needs) (λ c. search needs) (λ c. search needs) (λ c. search needs) (λ c. search needs) (λ c. search needs)
+    (λ c. search needs) (λ c. search needs) add-result-2 (λ c. search needs) (λ c. search needs) (λ c. search needs) add-result-3 (λ c. search needs)
+    add-result-4 returns returns-2)

@@ -27,15 +27,5 @@ returns-2 c = ap hopsNumber (sym (ap answerSaid (c .before .number .given .1)) �
 pub kin-fewest-spec : {M : Type 1} → statement M
 kin-fewest-spec =
     tie.close
-    (tie.spec
-    (λ c κs. search needs)
-    (λ c. search needs)
-    (λ c. search needs)
-    (λ c. search needs)
-    (λ c. search needs)
-    (λ c. search needs)
-    add-result
-    (λ c. search needs)
-    add-result-2
-    returns
-    returns-2)
+    (tie.spec (λ c κs. search needs) (λ c. search needs) (λ c. search needs) (λ c. search needs) (λ c. search needs) (λ c. search needs) add-result
+    (λ c. search needs) add-result-2 returns returns-2)

@@ -37,12 +37,5 @@ returns-2 c =
 pub kin-held-spec : {M : Type 1} → statement M
 kin-held-spec =
     tie.close
-    (tie.spec
-    returns
-    (λ c κs. search needs)
-    (λ c κs. search needs)
-    (λ c κs. search needs)
-    listed-number-requires
-    (λ c. search needs)
-    (λ c. search needs)
-    returns-2)
+    (tie.spec returns (λ c κs. search needs) (λ c κs. search needs) (λ c κs. search needs) listed-number-requires (λ c. search needs)
+    (λ c. search needs) returns-2)

@@ -30,16 +30,5 @@ returns-2 c = sym (ap (λ (a : code.Answer). listedNumber (answerSaid a)) (c .be
 pub listed-number-spec : {M : Type 1} → statement M
 listed-number-spec =
     tie.close
-    (tie.spec
-    (λ c. search needs)
-    (λ c. search needs)
-    mul-result
-    add-result
-    (λ c. search needs)
-    (λ c. search needs)
-    (λ c. search needs)
-    add-result-2
-    (λ c. search needs)
-    add-result-3
-    returns
-    returns-2)
+    (tie.spec (λ c. search needs) (λ c. search needs) mul-result add-result (λ c. search needs) (λ c. search needs) (λ c. search needs) add-result-2
+    (λ c. search needs) add-result-3 returns returns-2)

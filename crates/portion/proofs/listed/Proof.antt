@@ -72,19 +72,5 @@ returns-2 c =
 pub listed-spec : {M : Type 1} → statement M
 listed-spec =
     tie.close
-    (tie.spec
-    counts-requires
-    (λ c. search needs)
-    (λ c. search needs)
-    fill-requires
-    fits-requires
-    returns
-    (λ c. search needs)
-    (λ c. search needs)
-    (λ c. search needs)
-    cast-distances-2
-    distances-requires
-    (λ c. search needs)
-    list-requires
-    (λ c. search needs)
-    returns-2)
+    (tie.spec counts-requires (λ c. search needs) (λ c. search needs) fill-requires fits-requires returns (λ c. search needs) (λ c. search needs)
+    (λ c. search needs) cast-distances-2 distances-requires (λ c. search needs) list-requires (λ c. search needs) returns-2)

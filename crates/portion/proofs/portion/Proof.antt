@@ -18,12 +18,5 @@ listed-requires c κs = record { asked = sym (c .before .before .before .before 
 pub portion-spec : {M : Type 1} → statement M
 portion-spec =
     tie.close
-    (tie.spec
-    (λ c κs. search needs)
-    (λ c. search needs)
-    returns
-    (λ c. search needs)
-    returns-2
-    listed-requires
-    (λ c. search needs)
+    (tie.spec (λ c κs. search needs) (λ c. search needs) returns (λ c. search needs) returns-2 listed-requires (λ c. search needs)
     (λ c. search needs))

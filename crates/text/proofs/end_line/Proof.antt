@@ -35,11 +35,4 @@ returns c =
 pub end-line-spec : {M : Type 1} → statement M
 end-line-spec =
     tie.close
-    (tie.spec
-    (λ c. search needs)
-    (λ c κs. search needs)
-    count-requires
-    slice-write-out
-    add-result
-    same-length
-    returns)
+    (tie.spec (λ c. search needs) (λ c κs. search needs) count-requires slice-write-out add-result same-length returns)

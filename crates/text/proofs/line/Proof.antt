@@ -89,31 +89,6 @@ returns c = line-done (c .before .before .before .before .before .before .pre .0
 pub line-spec : {M : Type 1} → statement M
 line-spec =
     tie.close
-    (tie.spec
-    Inv-loop
-    μ-loop
-    mul-first
-    mul-hops
-    shared-slice-read-hops
-    digit-requires
-    (λ c. search needs)
-    (λ c. search needs)
-    slice-write-out-2
-    add-end
-    cast-end
-    add-end-2
-    add-cell
-    (λ c. search needs)
-    loop-holds
-    slice-write-out-3
-    mul-number
-    shared-slice-read-number
-    add-number
-    number-requires
-    add-cell-2
-    (λ c. search needs)
-    loop-again
-    slice-write-out-4
-    add-result
-    same-length
-    returns)
+    (tie.spec Inv-loop μ-loop mul-first mul-hops shared-slice-read-hops digit-requires (λ c. search needs) (λ c. search needs) slice-write-out-2
+    add-end cast-end add-end-2 add-cell (λ c. search needs) loop-holds slice-write-out-3 mul-number shared-slice-read-number add-number
+    number-requires add-cell-2 (λ c. search needs) loop-again slice-write-out-4 add-result same-length returns)

@@ -46,16 +46,5 @@ returns-2 c = paging-all (c .before .loop .inv) (c .loop-test .left)
 pub lines-spec : {M : Type 1} → statement M
 lines-spec =
     tie.close
-    (tie.spec
-    Inv-loop
-    μ-loop
-    loop-holds
-    sub-if1
-    same-length
-    returns
-    line-requires
-    (λ c. search needs)
-    (λ c. search needs)
-    loop-again
-    same-length-2
+    (tie.spec Inv-loop μ-loop loop-holds sub-if1 same-length returns line-requires (λ c. search needs) (λ c. search needs) loop-again same-length-2
     returns-2)

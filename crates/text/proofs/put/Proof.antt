@@ -31,16 +31,5 @@ returns c = put-ends (c .before .loop .inv) (search needs)
 pub put-spec : {M : Type 1} → statement M
 put-spec =
     tie.close
-    (tie.spec
-    Inv-loop
-    μ-loop
-    loop-holds
-    (λ c. search needs)
-    (λ c. search needs)
-    slice-write-out
-    (λ c. search needs)
-    (λ c. search needs)
-    loop-again
-    (λ c. search needs)
-    same-length
-    returns)
+    (tie.spec Inv-loop μ-loop loop-holds (λ c. search needs) (λ c. search needs) slice-write-out (λ c. search needs) (λ c. search needs) loop-again
+    (λ c. search needs) same-length returns)

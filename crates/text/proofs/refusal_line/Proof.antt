@@ -64,14 +64,5 @@ returns c =
 pub refusal-line-spec : {M : Type 1} → statement M
 refusal-line-spec =
     tie.close
-    (tie.spec
-    (λ c. search needs)
-    (λ c κs. search needs)
-    number-requires
-    (λ c. search needs)
-    put-requires-2
-    number-requires-2
-    slice-write-out
-    add-result
-    same-length
-    returns)
+    (tie.spec (λ c. search needs) (λ c κs. search needs) number-requires (λ c. search needs) put-requires-2 number-requires-2 slice-write-out
+    add-result same-length returns)

@@ -50,19 +50,5 @@ returns c = keep-ends (c .before .loop .inv) (c .loop-test .left)
 pub keep-last-spec : {M : Type 1} → statement M
 keep-last-spec =
     tie.close
-    (tie.spec
-    Inv-loop
-    μ-loop
-    sub-first
-    mul-first
-    loop-holds
-    add-bookmark
-    mul-bookmark
-    shared-slice-read-bookmark
-    mul-bookmark-2
-    slice-write-bookmark
-    (λ c. search needs)
-    (λ c. search needs)
-    loop-again
-    same-length
-    returns)
+    (tie.spec Inv-loop μ-loop sub-first mul-first loop-holds add-bookmark mul-bookmark shared-slice-read-bookmark mul-bookmark-2 slice-write-bookmark
+    (λ c. search needs) (λ c. search needs) loop-again same-length returns)

@@ -48,23 +48,6 @@ returns-4 c =
 pub look-ahead-spec : {M : Type 1} → statement M
 look-ahead-spec =
     tie.close
-    (tie.spec
-    (λ c. search needs)
-    returns
-    (λ c κs. search needs)
-    (λ c. search needs)
-    (λ c. search needs)
-    sub-go-on
-    part-go-on-start
-    (λ c. search needs)
-    go-on-requires
-    (λ c. search needs)
-    (λ c. search needs)
-    (λ c κs. search needs)
-    (λ c. search needs)
-    (λ c. search needs)
-    returns-2
-    returns-3
-    (λ c. search needs)
-    (λ c. search needs)
-    returns-4)
+    (tie.spec (λ c. search needs) returns (λ c κs. search needs) (λ c. search needs) (λ c. search needs) sub-go-on part-go-on-start
+    (λ c. search needs) go-on-requires (λ c. search needs) (λ c. search needs) (λ c κs. search needs) (λ c. search needs) (λ c. search needs)
+    returns-2 returns-3 (λ c. search needs) (λ c. search needs) returns-4)

@@ -54,20 +54,5 @@ returns-5 c =
 pub put-page-spec : {M : Type 1} → statement M
 put-page-spec =
     tie.close
-    (tie.spec
-    (λ c. search needs)
-    lines-requires
-    (λ c κs. search needs)
-    (λ c. search needs)
-    returns
-    end-line-requires
-    (λ c. search needs)
-    (λ c κs. search needs)
-    (λ c. search needs)
-    (λ c. search needs)
-    (λ c. search needs)
-    returns-2
-    (λ c. search needs)
-    returns-3
-    returns-4
-    returns-5)
+    (tie.spec (λ c. search needs) lines-requires (λ c κs. search needs) (λ c. search needs) returns end-line-requires (λ c. search needs)
+    (λ c κs. search needs) (λ c. search needs) (λ c. search needs) (λ c. search needs) returns-2 (λ c. search needs) returns-3 returns-4 returns-5)

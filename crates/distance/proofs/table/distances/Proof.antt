@@ -56,16 +56,5 @@ returns-2 c = rounds-end (omega (arith, c .loop-test .left, c .before .loop .inv
 pub distances-spec : {M : Type 1} → statement M
 distances-spec =
     tie.close
-    (tie.spec
-    Inv-loop
-    μ-loop
-    add-unknown
-    array-write-cells
-    loop-holds
-    slice-aggregate-round
-    round-requires
-    returns
-    add-hops
-    loop-less
-    loop-again
+    (tie.spec Inv-loop μ-loop add-unknown array-write-cells loop-holds slice-aggregate-round round-requires returns add-hops loop-less loop-again
     returns-2)

@@ -72,23 +72,5 @@ returns-2 c = passing-ends (c .before .before .before .before .pre) refl (c .bef
 pub leads-spec : {M : Type 1} → statement M
 leads-spec =
     tie.close
-    (tie.spec
-    Inv-loop
-    μ-loop
-    add-end
-    mul-end
-    shared-slice-read-end
-    cast-end
-    mul-at
-    shared-slice-read-at
-    cast-at
-    loop-holds
-    mul-target
-    shared-slice-read-target
-    cast-target
-    shared-slice-read-if1
-    returns
-    add-at
-    loop-less
-    loop-again
-    returns-2)
+    (tie.spec Inv-loop μ-loop add-end mul-end shared-slice-read-end cast-end mul-at shared-slice-read-at cast-at loop-holds mul-target
+    shared-slice-read-target cast-target shared-slice-read-if1 returns add-at loop-less loop-again returns-2)

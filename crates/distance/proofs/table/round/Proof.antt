@@ -62,17 +62,5 @@ returns c = stepping-ends (c .before .before .before .before .before .pre) (c .b
 pub round-spec : {M : Type 1} → statement M
 round-spec =
     tie.close
-    (tie.spec
-    Inv-loop
-    μ-loop
-    loop-holds
-    slice-read-if1
-    add-if1
-    leads-requires
-    add-cells
-    slice-write-cells
-    add-person
-    loop-less
-    loop-again
-    same-length
+    (tie.spec Inv-loop μ-loop loop-holds slice-read-if1 add-if1 leads-requires add-cells slice-write-cells add-person loop-less loop-again same-length
     returns)

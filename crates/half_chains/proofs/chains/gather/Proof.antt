@@ -58,19 +58,5 @@ returns-2 c = gather-end (c .before .loop .inv) (c .loop-test .left)
 pub gather-spec : {M : Type 1} → statement M
 gather-spec =
     tie.close
-    (tie.spec
-    Inv-loop
-    μ-loop
-    cast-chain
-    (λ c. search needs)
-    loop-holds
-    add-length
-    add-left
-    sub-t20
-    extend-requires
-    same-length
-    returns
-    (λ c. search needs)
-    loop-again
-    same-length-2
-    returns-2)
+    (tie.spec Inv-loop μ-loop cast-chain (λ c. search needs) loop-holds add-length add-left sub-t20 extend-requires same-length returns
+    (λ c. search needs) loop-again same-length-2 returns-2)

@@ -73,21 +73,5 @@ returns-2 c = shelve-end (c .before .loop .inv) (c .loop-test .left)
 pub shelve-spec : {M : Type 1} → statement M
 shelve-spec =
     tie.close
-    (tie.spec
-    Inv-loop
-    μ-loop
-    loop-holds
-    mul-index
-    slice-write-index
-    begin-requires
-    same-length
-    same-length-2
-    returns
-    add-place
-    (λ c. search needs)
-    loop-again
-    mul-index-2
-    slice-write-index-2
-    same-length-3
-    same-length-4
-    returns-2)
+    (tie.spec Inv-loop μ-loop loop-holds mul-index slice-write-index begin-requires same-length same-length-2 returns add-place (λ c. search needs)
+    loop-again mul-index-2 slice-write-index-2 same-length-3 same-length-4 returns-2)

@@ -39,17 +39,5 @@ returns-2 c = look-end (c .before .before .pre) (c .before .loop .inv) (c .loop-
 pub apart-spec : {M : Type 1} → statement M
 apart-spec =
     tie.close
-    (tie.spec
-    Inv-loop
-    μ-loop
-    loop-holds
-    add-v
-    (λ c. search needs)
-    shared-slice-read-v
-    cast-v
-    element-copy-out-if1
-    returns
-    (λ c. search needs)
-    (λ c. search needs)
-    loop-again
-    returns-2)
+    (tie.spec Inv-loop μ-loop loop-holds add-v (λ c. search needs) shared-slice-read-v cast-v element-copy-out-if1 returns (λ c. search needs)
+    (λ c. search needs) loop-again returns-2)

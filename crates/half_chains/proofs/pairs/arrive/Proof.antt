@@ -82,22 +82,5 @@ returns-2 c = arrive-end (c .before .loop .inv) (c .loop-test .left)
 pub arrive-spec : {M : Type 1} → statement M
 arrive-spec =
     tie.close
-    (tie.spec
-    Inv-loop
-    μ-loop
-    mul-place
-    add-place
-    mul-half
-    shared-slice-read-half
-    add-end
-    mul-end
-    shared-slice-read-end
-    loop-holds
-    pair-requires
-    same-length
-    returns
-    add-half
-    (λ c. search needs)
-    loop-again
-    same-length-2
-    returns-2)
+    (tie.spec Inv-loop μ-loop mul-place add-place mul-half shared-slice-read-half add-end mul-end shared-slice-read-end loop-holds pair-requires
+    same-length returns add-half (λ c. search needs) loop-again same-length-2 returns-2)

@@ -37,20 +37,5 @@ returns-3 c = hand-count (c .before .before .before .before .before .before .pre
 pub hand-over-spec : {M : Type 1} → statement M
 hand-over-spec =
     tie.close
-    (tie.spec
-    returns
-    (λ c. search needs)
-    put-requires
-    (λ c. search needs)
-    (λ c. search needs)
-    append-requires
-    (λ c. search needs)
-    (λ c. search needs)
-    (λ c. search needs)
-    (λ c. search needs)
-    (λ c. search needs)
-    (λ c. search needs)
-    same-length
-    returns-2
-    (λ c. search needs)
-    returns-3)
+    (tie.spec returns (λ c. search needs) put-requires (λ c. search needs) (λ c. search needs) append-requires (λ c. search needs) (λ c. search needs)
+    (λ c. search needs) (λ c. search needs) (λ c. search needs) (λ c. search needs) same-length returns-2 (λ c. search needs) returns-3)

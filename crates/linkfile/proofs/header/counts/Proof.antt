@@ -36,11 +36,4 @@ returns c =
 pub counts-spec : {M : Type 1} → statement M
 counts-spec =
     tie.close
-    (tie.spec
-    person-count-requires
-    (λ c. search needs)
-    link-count-requires
-    (λ c. search needs)
-    feed-count-requires
-    (λ c. search needs)
-    returns)
+    (tie.spec person-count-requires (λ c. search needs) link-count-requires (λ c. search needs) feed-count-requires (λ c. search needs) returns)

@@ -107,24 +107,6 @@ returns-5 c =
 pub laid-out-spec : {M : Type 1} → statement M
 laid-out-spec =
     tie.close
-    (tie.spec
-    feed-count-requires
-    mul-rows-start
-    add-rows-start
-    person-count-requires
-    add-links-start
-    mul-links-start
-    add-links-start-2
-    link-count-requires
-    mul-length
-    add-length
-    number32-requires
-    returns
-    number32-requires-2
-    returns-2
-    number32-requires-3
-    returns-3
-    number32-requires-4
-    returns-4
-    (λ c. search needs)
-    returns-5)
+    (tie.spec feed-count-requires mul-rows-start add-rows-start person-count-requires add-links-start mul-links-start add-links-start-2
+    link-count-requires mul-length add-length number32-requires returns number32-requires-2 returns-2 number32-requires-3 returns-3
+    number32-requires-4 returns-4 (λ c. search needs) returns-5)

@@ -40,16 +40,5 @@ returns-4 c =
 pub link-fault-spec : {M : Type 1} → statement M
 link-fault-spec =
     tie.close
-    (tie.spec
-    (λ c κs. search needs)
-    (λ c κs. search needs)
-    (λ c. search needs)
-    returns
-    (λ c κs. search needs)
-    (λ c κs. search needs)
-    (λ c. search needs)
-    returns-2
-    (λ c κs. search needs)
-    (λ c. search needs)
-    returns-3
-    returns-4)
+    (tie.spec (λ c κs. search needs) (λ c κs. search needs) (λ c. search needs) returns (λ c κs. search needs) (λ c κs. search needs)
+    (λ c. search needs) returns-2 (λ c κs. search needs) (λ c. search needs) returns-3 returns-4)

@@ -62,24 +62,6 @@ returns-2 c =
 pub links-fault-spec : {M : Type 1} → statement M
 links-fault-spec =
     tie.close
-    (tie.spec
-    Inv-loop
-    μ-loop
-    Inv-persons
-    μ-persons
-    persons-holds
-    entry-requires
-    (λ c. search needs)
-    entry-requires-2
-    loop-holds
-    link-fault-requires
-    (λ c. search needs)
-    (λ c. search needs)
-    (λ c. search needs)
-    (λ c. search needs)
-    loop-again
-    (λ c. search needs)
-    (λ c. search needs)
-    persons-again
-    returns
-    returns-2)
+    (tie.spec Inv-loop μ-loop Inv-persons μ-persons persons-holds entry-requires (λ c. search needs) entry-requires-2 loop-holds link-fault-requires
+    (λ c. search needs) (λ c. search needs) (λ c. search needs) (λ c. search needs) loop-again (λ c. search needs) (λ c. search needs) persons-again
+    returns returns-2)

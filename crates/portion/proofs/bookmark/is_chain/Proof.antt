@@ -77,18 +77,5 @@ returns-5 c =
 pub is-chain-spec : {M : Type 1} → statement M
 is-chain-spec =
     tie.close
-    (tie.spec
-    returns
-    (λ c. search needs)
-    (λ c κs. search needs)
-    returns-2
-    (λ c. search needs)
-    returns-3
-    (λ c. search needs)
-    cast-last
-    add-last
-    run-requires
-    returns-4
-    add-blank
-    blank-requires
-    returns-5)
+    (tie.spec returns (λ c. search needs) (λ c κs. search needs) returns-2 (λ c. search needs) returns-3 (λ c. search needs) cast-last add-last
+    run-requires returns-4 add-blank blank-requires returns-5)

@@ -71,23 +71,5 @@ returns-3 c = seek-none (c .before .loop .inv) (c .loop-test .left)
 pub leads-spec : {M : Type 1} → statement M
 leads-spec =
     tie.close
-    (tie.spec
-    Inv-loop
-    μ-loop
-    returns
-    add-end
-    mul-end
-    element-copy-out-end
-    cast-end
-    mul-at
-    element-copy-out-at
-    cast-at
-    loop-holds
-    mul-if2
-    element-copy-out-if2
-    cast-if2
-    returns-2
-    (λ c. search needs)
-    (λ c. search needs)
-    loop-again
-    returns-3)
+    (tie.spec Inv-loop μ-loop returns add-end mul-end element-copy-out-end cast-end mul-at element-copy-out-at cast-at loop-holds mul-if2
+    element-copy-out-if2 cast-if2 returns-2 (λ c. search needs) (λ c. search needs) loop-again returns-3)

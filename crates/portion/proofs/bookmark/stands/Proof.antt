@@ -29,14 +29,4 @@ returns-2 c = seek-none (c .before .loop .inv) (c .loop-test .left)
 pub stands-spec : {M : Type 1} → statement M
 stands-spec =
     tie.close
-    (tie.spec
-    Inv-loop
-    μ-loop
-    loop-holds
-    (λ c. search needs)
-    (λ c. search needs)
-    returns
-    (λ c. search needs)
-    (λ c. search needs)
-    loop-again
-    returns-2)
+    (tie.spec Inv-loop μ-loop loop-holds (λ c. search needs) (λ c. search needs) returns (λ c. search needs) (λ c. search needs) loop-again returns-2)

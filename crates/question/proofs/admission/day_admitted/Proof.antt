@@ -43,13 +43,5 @@ returns-4 c =
 pub day-admitted-spec : {M : Type 1} → statement M
 day-admitted-spec =
     tie.close
-    (tie.spec
-    (λ c κs. search needs)
-    (λ c κs. search needs)
-    returns
-    returns-2
-    returns-3
-    (λ c κs. search needs)
-    (λ c. search needs)
-    meaning-requires
+    (tie.spec (λ c κs. search needs) (λ c κs. search needs) returns returns-2 returns-3 (λ c κs. search needs) (λ c. search needs) meaning-requires
     returns-4)

@@ -29,11 +29,4 @@ returns-3 c =
 pub person-fault-spec : {M : Type 1} → statement M
 person-fault-spec =
     tie.close
-    (tie.spec
-    (λ c κs. search needs)
-    (λ c. search needs)
-    returns
-    (λ c. search needs)
-    returns-2
-    (λ c κs. search needs)
-    returns-3)
+    (tie.spec (λ c κs. search needs) (λ c. search needs) returns (λ c. search needs) returns-2 (λ c κs. search needs) returns-3)

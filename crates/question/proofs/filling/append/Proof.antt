@@ -108,23 +108,5 @@ returns-2 c =
 pub append-spec : {M : Type 1} → statement M
 append-spec =
     tie.close
-    (tie.spec
-    Inv-loop
-    μ-loop
-    returns
-    add-entry
-    entry-requires
-    entry-requires-2
-    loop-holds
-    admits-requires
-    place-requires
-    target-requires
-    cast-targets
-    mul-targets
-    slice-write-targets
-    add-end
-    add-link
-    loop-less
-    loop-again
-    same-length
-    returns-2)
+    (tie.spec Inv-loop μ-loop returns add-entry entry-requires entry-requires-2 loop-holds admits-requires place-requires target-requires cast-targets
+    mul-targets slice-write-targets add-end add-link loop-less loop-again same-length returns-2)

@@ -58,18 +58,5 @@ returns c =
 pub fill-spec : {M : Type 1} → statement M
 fill-spec =
     tie.close
-    (tie.spec
-    Inv-loop
-    μ-loop
-    slice-write-starts
-    loop-holds
-    append-requires
-    add-person
-    cast-starts
-    mul-starts
-    slice-write-starts-2
-    loop-less
-    loop-again
-    same-length
-    same-length-2
-    returns)
+    (tie.spec Inv-loop μ-loop slice-write-starts loop-holds append-requires add-person cast-starts mul-starts slice-write-starts-2 loop-less
+    loop-again same-length same-length-2 returns)

@@ -55,19 +55,5 @@ returns c =
 pub count-spec : {M : Type 1} → statement M
 count-spec =
     tie.close
-    (tie.spec
-    Inv-loop
-    μ-loop
-    first-digit-requires
-    (λ c. search needs)
-    loop-holds
-    (λ c. search needs)
-    element-copy-out-digit
-    cast-digit
-    digit-requires
-    slice-write-out
-    add-next
-    (λ c. search needs)
-    loop-again
-    same-length
-    returns)
+    (tie.spec Inv-loop μ-loop first-digit-requires (λ c. search needs) loop-holds (λ c. search needs) element-copy-out-digit cast-digit digit-requires
+    slice-write-out add-next (λ c. search needs) loop-again same-length returns)

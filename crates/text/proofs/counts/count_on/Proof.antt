@@ -38,17 +38,5 @@ returns c = (c .before .loop .inv .digits, on-ends (c .before .loop .inv) (c .lo
 pub count-on-spec : {M : Type 1} → statement M
 count-on-spec =
     tie.close
-    (tie.spec
-    Inv-loop
-    μ-loop
-    loop-holds
-    (λ c. search needs)
-    cast-sum
-    add-sum
-    cast-counted
-    (λ c. search needs)
-    add-carry
-    (λ c. search needs)
-    (λ c. search needs)
-    loop-again
-    returns)
+    (tie.spec Inv-loop μ-loop loop-holds (λ c. search needs) cast-sum add-sum cast-counted (λ c. search needs) add-carry (λ c. search needs)
+    (λ c. search needs) loop-again returns)

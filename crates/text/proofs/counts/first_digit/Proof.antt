@@ -29,14 +29,4 @@ returns-2 c = (c .before .loop .inv .within, c .before .loop .inv .zeros, inl (o
 pub first-digit-spec : {M : Type 1} → statement M
 first-digit-spec =
     tie.close
-    (tie.spec
-    Inv-loop
-    μ-loop
-    (λ c. search needs)
-    loop-holds
-    (λ c. search needs)
-    returns
-    (λ c. search needs)
-    (λ c. search needs)
-    loop-again
-    returns-2)
+    (tie.spec Inv-loop μ-loop (λ c. search needs) loop-holds (λ c. search needs) returns (λ c. search needs) (λ c. search needs) loop-again returns-2)

@@ -36,31 +36,7 @@ returns-3 c = three-digits (c .before .before .before .before .if2 .left) (c .be
 pub number-spec : {M : Type 1} → statement M
 number-spec =
     tie.close
-    (tie.spec
-    (λ c κs. search needs)
-    slice-write-out
-    (λ c. search needs)
-    (λ c. search needs)
-    returns
-    (λ c κs. search needs)
-    slice-write-out-2
-    (λ c κs. search needs)
-    (λ c. search needs)
-    slice-write-out-3
-    (λ c. search needs)
-    (λ c. search needs)
-    returns-2
-    (λ c κs. search needs)
-    slice-write-out-4
-    (λ c κs. search needs)
-    (λ c. search needs)
-    slice-write-out-5
-    (λ c κs. search needs)
-    (λ c. search needs)
-    slice-write-out-6
-    (λ c. search needs)
-    (λ c. search needs)
-    returns-3
-    (λ c κs. search needs)
-    (λ c. search needs)
-    (λ c. search needs))
+    (tie.spec (λ c κs. search needs) slice-write-out (λ c. search needs) (λ c. search needs) returns (λ c κs. search needs) slice-write-out-2
+    (λ c κs. search needs) (λ c. search needs) slice-write-out-3 (λ c. search needs) (λ c. search needs) returns-2 (λ c κs. search needs)
+    slice-write-out-4 (λ c κs. search needs) (λ c. search needs) slice-write-out-5 (λ c κs. search needs) (λ c. search needs) slice-write-out-6
+    (λ c. search needs) (λ c. search needs) returns-3 (λ c κs. search needs) (λ c. search needs) (λ c. search needs))
