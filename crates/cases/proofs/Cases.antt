@@ -7,7 +7,8 @@ use lib.ListN.{length, replicate}
 use Rattle.linkfile.specs.Numbers.{number16, number32}
 use Rattle.linkfile.specs.Format.{marked, countsFit, laidOut}
 use Rattle.linkfile.specs.Kinds.{classOf}
-use Rattle.linkfile.specs.Verdict.{firstAmong, passed}
+use Rattle.linkfile.specs.Verdict.{passed}
+use Rattle.refusals.specs.Faults.{firstAmong}
 use Rattle.linkfile.specs.Checked.{archiveRises, feedRuled, feedFault, rowStartsOrKeeps, rowEnds, rowRuled, rowFault, targetRises, linkRuled, linkFault, ownedFault, tablesFault, fileFault, checked}
 use Rattle.ways.specs.Graph.{among, keep}
 use Rattle.ways.specs.Order.{before}

@@ -4,7 +4,7 @@ use mathlib.Core.Bool.{Bool, true, false}
 use mathlib.Core.List.{List, [], _∷_, _++_}
 use Prim.Native.Nat.{ℕ}
 use lib.ListN.{length, drop}
-use Rattle.linkfile.specs.Verdict.{sound, fault}
+use Rattle.refusals.specs.Faults.{sound, fault}
 use Rattle.ways.specs.Portions.{portion, endedAfter}
 use Rattle.ways.specs.Records.{written}
 use Rattle.ways.specs.Sizes.{recordSize}

@@ -10,8 +10,8 @@ use lib.Seq.{take-all}
 use Rattle.ways.specs.Sizes.{recordSize}
 use Rattle.question.specs.declared.Question.{Question}
 use Rattle.portion.specs.Listing.{startSaid}
-use Rattle.portion.specs.Answers.{listed, answerSaid}
-use Rattle.portion.specs.declared.Answer as answer
+use Rattle.refusals.specs.Answers.{listed, answerSaid}
+use Rattle.refusals.specs.declared.Answer as answer
 use Rattle.text.specs.Decimal.{worth, Digits}
 use Rattle.chains.specs.Program.{questionSize, questionIn, asks, refused, heardIn}
 use Rattle.chains.specs.Onward.{toCome, OnTheWay, WentOn}

@@ -6,7 +6,7 @@ use native.Mathlib.Nat.{pow-le-pow-right, le-trans, lt-of-le-of-lt}
 use mathlib.Core.List.{List}
 use lib.Dec.{lit<}
 use lib.ListN.{length}
-use Rattle.linkfile.specs.Verdict.{sound}
+use Rattle.refusals.specs.Faults.{sound}
 use Rattle.linkfile.specs.Format.{personCount}
 use Rattle.linkfile.proofs.Passed.{sound-rules}
 use Rattle.ways.specs.Sizes.{mostHops}

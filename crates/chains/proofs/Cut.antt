@@ -11,7 +11,7 @@ use native.Mathlib.Nat.{zero-add, suc-add}
 use lib.Seq.{getD-take, take-nil, take-all, length-take-le}
 use Rattle.linkfile.specs.Numbers.{number16, number32}
 use Rattle.linkfile.specs.Format.{marked, countsFit, laidOut}
-use Rattle.linkfile.specs.Verdict.{fault, unless}
+use Rattle.refusals.specs.Faults.{fault, unless}
 use Rattle.linkfile.specs.Checked.{tablesFault, fileFault}
 use Rattle.linkfile.proofs.Counted.{counts-fit, laid-out-long}
 use Rattle.question.specs.declared.Question.{Question}

@@ -8,7 +8,7 @@ use native.Mathlib.Nat.{lt-of-le-of-lt}
 use borrow.Author.Tests.{le-leb, leb-true, leb-false}
 use lib.ListN.{length, take, drop, length-take, length-drop, take-append-drop}
 use lib.Seq.{take-all, length-take-le}
-use Rattle.linkfile.specs.Verdict.{Fault, sound, fault, firstOf}
+use Rattle.refusals.specs.Faults.{Fault, sound, fault, firstOf}
 use Rattle.ways.specs.Portions.{after, lastOr}
 use Rattle.ways.specs.Records.{cellsOf, written, roomOf}
 use Rattle.ways.specs.Sizes.{recordSize}
@@ -16,9 +16,10 @@ use Rattle.ways.proofs.Portions.{after-portion}
 use Rattle.question.specs.declared.Question.{Question}
 use Rattle.question.specs.Asked.{askedFault}
 use Rattle.portion.specs.Listing.{listingFor, Start, bookmarked, startSaid, startsAfter, portionFault, portionFor, endedFor}
-use Rattle.portion.specs.Answers.{Answer, listed, refused, answerSaid, answerFor, Portioned}
+use Rattle.portion.specs.Answers.{Portioned}
+use Rattle.refusals.specs.Answers.{Answer, listed, refused, answerSaid, answerFor}
 use Rattle.portion.specs.EndToEnd.{lastRecord}
-use Rattle.portion.specs.declared.Answer as code
+use Rattle.refusals.specs.declared.Answer as code
 use Rattle.portion.proofs.Known.{portion-in, fresh-all, rises, Kept, last-kept}
 use Rattle.portion.proofs.Telling.{listed-asked, listed-fits, listed-count, listed-ended, listed-cells, listed-length}
 use Rattle.text.specs.Decimal.{worth, Digits}

@@ -5,7 +5,7 @@ use mathlib.Core.Bool.{Bool, true, false, cond}
 use Prim.Native.Nat.{ℕ, _≤_}
 use lib.ListN.{length, take}
 use lib.Dec.{ltb}
-use Rattle.portion.specs.Answers.{Answer, listed, refused}
+use Rattle.refusals.specs.Answers.{Answer, listed, refused}
 use Rattle.chains.specs.Pages.{leftText, Lined, Ready}
 use Rattle.chains.specs.declared.pages.Left as code
 use Rattle.chains.specs.declared.pages.Put.{Put}

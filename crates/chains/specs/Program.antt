@@ -6,7 +6,7 @@ use lib.ListN.{length, take, drop}
 use lib.Dec.{ltb}
 use Rattle.linkfile.specs.Numbers.{number32}
 use Rattle.linkfile.specs.Format.{marked, countsFit}
-use Rattle.linkfile.specs.Verdict.{Fault, sound, fault}
+use Rattle.refusals.specs.Faults.{Fault, sound, fault}
 use Rattle.question.specs.declared.Question.{Question}
 use Rattle.question.specs.Asked.{askedFault}
 use Rattle.portion.specs.Listing.{listingFor}

@@ -1,6 +1,6 @@
 // Going on by a portion: its chains in the cells, the count, and the bookmark for the next one.
-use portion::Answer;
 use question::Question;
+use refusals::Answer;
 use text::DIGITS;
 use text::counts::count_on;
 use ways::RECORD;
@@ -9,7 +9,7 @@ ghost use Prim.Native.Nat.{_*_, _≤_};
 ghost use lib.ListN.{length};
 ghost use Rattle.ways.specs.Sizes.{recordSize};
 ghost use Rattle.portion.specs.Listing.{startSaid};
-ghost use Rattle.portion.specs.Answers.{answerSaid};
+ghost use Rattle.refusals.specs.Answers.{answerSaid};
 ghost use Rattle.portion.specs.EndToEnd.{lastRecord};
 ghost use Rattle.text.specs.Decimal.{worth};
 ghost use Rattle.chains.specs.Onward.{OnTheWay, WentOn};

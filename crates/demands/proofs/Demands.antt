@@ -2,7 +2,7 @@
 use mathlib.Core.Path.{_≡_}
 use mathlib.Core.List.{List}
 use Prim.Native.Nat.{ℕ}
-use Rattle.linkfile.specs.Verdict.{sound}
+use Rattle.refusals.specs.Faults.{sound}
 use Rattle.question.specs.declared.Question.{Question}
 use Rattle.question.specs.Asked.{askedFault}
 use Rattle.demands.specs.Demands.{DemandOne, DemandTwo, DemandThree, FewestAsSaid}

@@ -9,10 +9,10 @@ use lib.Dec.{eqb}
 use borrow.Author.Tests.{eqb-true, eqb-false}
 use Rattle.linkfile.specs.Format.{personCount, linkCount, feedCount}
 use Rattle.linkfile.specs.Verdict as verdict
-use Rattle.linkfile.specs.Verdict.{Fault, sound, fault, firstOf, NumberedFrom, Numbered}
+use Rattle.refusals.specs.Faults.{Fault, sound, fault, firstOf, NumberedFrom, Numbered}
 use Rattle.linkfile.specs.Checked.{fileFault, checked}
 use Rattle.linkfile.specs.Rows.{viewStart, viewEnd}
-use Rattle.linkfile.proofs.Faults.{first-both}
+use Rattle.refusals.proofs.Faults.{first-both}
 use Rattle.linkfile.proofs.Counted.{laid-out-long}
 use Rattle.linkfile.proofs.Passed.{sound-rules, passed-fits}
 use Rattle.linkfile.proofs.Numbered.{file-numbered}
@@ -30,8 +30,9 @@ use Rattle.question.proofs.Numbered.{person-numbered}
 use Rattle.question.proofs.Refused.{person-proper}
 use Rattle.distance.specs.Answers as distance
 use Rattle.portion.specs.Listing.{Start, portionFault, portionFor, endedFor}
-use Rattle.portion.specs.Answers.{Answer, listed, refused, answerSaid, answerFor, Portioned}
-use Rattle.portion.specs.declared.Answer as code
+use Rattle.portion.specs.Answers.{Portioned}
+use Rattle.refusals.specs.Answers.{Answer, listed, refused, answerSaid, answerFor}
+use Rattle.refusals.specs.declared.Answer as code
 use Rattle.portion.proofs.Numbered.{portion-numbered}
 use Rattle.portion.proofs.Known.{portion-in, kept}
 use Rattle.portion.proofs.Telling.{sound-asked}

@@ -10,7 +10,7 @@ use denote.Ref.{RefT, now}
 use borrow.Author.Tests.{le-ltb}
 use Rattle.linkfile.specs.Format.{personCount, linkCount, feedCount}
 use Rattle.linkfile.specs.Verdict as verdict
-use Rattle.linkfile.specs.Verdict.{Fault, sound, fault, firstOf, Numbered}
+use Rattle.refusals.specs.Faults.{Fault, sound, fault, firstOf, Numbered}
 use Rattle.linkfile.specs.Checked.{fileFault, checked}
 use Rattle.linkfile.specs.Rows.{viewStart, viewEnd}
 use Rattle.linkfile.specs.Answers.{verdictSaid, Checks, Views}
@@ -24,8 +24,9 @@ use Rattle.question.proofs.Numbered.{person-numbered}
 use Rattle.distance.specs.Answers as distance
 use Rattle.distance.specs.declared.Answer as hops
 use Rattle.portion.specs.Listing.{Start, portionFault, portionFor, endedFor}
-use Rattle.portion.specs.Answers.{refused, answerSaid, answerFor, Portioned}
-use Rattle.portion.specs.declared.Answer.{Answer}
+use Rattle.portion.specs.Answers.{Portioned}
+use Rattle.refusals.specs.Answers.{refused, answerSaid, answerFor}
+use Rattle.refusals.specs.declared.Answer.{Answer}
 use Rattle.portion.proofs.Numbered.{portion-numbered}
 use Rattle.held.specs.Holding.{startOf}
 use Rattle.join.specs.Lists.{chainsFor, joinFault, firstOnes, allFit}

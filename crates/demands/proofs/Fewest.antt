@@ -4,7 +4,7 @@ use mathlib.Core.List.{List, [], _∷_}
 use Prim.Native.Nat.{ℕ, _≤_}
 use native.Mathlib.Omega.{arith}
 use Rattle.linkfile.specs.Format.{personCount}
-use Rattle.linkfile.specs.Verdict.{Fault, sound, fault, firstOf}
+use Rattle.refusals.specs.Faults.{Fault, sound, fault, firstOf}
 use Rattle.linkfile.specs.Checked.{fileFault}
 use Rattle.ways.specs.Chain.{hops}
 use Rattle.ways.specs.Fewest.{Reach, fewest}

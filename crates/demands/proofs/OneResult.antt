@@ -15,8 +15,9 @@ use Rattle.distance.specs.Answers as distance
 use Rattle.distance.specs.declared.Answer as distance-code
 use Rattle.distance.proofs.OneResult.{fewest-one}
 use Rattle.portion.specs.Listing.{Start, portionFault, portionFor, endedFor}
-use Rattle.portion.specs.Answers.{Answer, listed, refused, answerSaid, answerFor, cellsFor, Portioned}
-use Rattle.portion.specs.declared.Answer as code
+use Rattle.portion.specs.Answers.{cellsFor, Portioned}
+use Rattle.refusals.specs.Answers.{Answer, listed, refused, answerSaid, answerFor}
+use Rattle.refusals.specs.declared.Answer as code
 use Rattle.portion.proofs.OneResult.{portion-one}
 use Rattle.held.specs.declared.Held.{Held}
 use Rattle.held.specs.Holding.{startOf, heldFor, MovedOn}

@@ -7,7 +7,7 @@ use native.Mathlib.Omega.{arith}
 use lib.ListN.{length}
 use borrow.Author.Tests.{le-leb}
 use Rattle.linkfile.specs.Format.{personCount}
-use Rattle.linkfile.specs.Verdict.{sound}
+use Rattle.refusals.specs.Faults.{sound}
 use Rattle.ways.specs.Graph.{_∈_}
 use Rattle.ways.specs.Chain.{Linked, Chain}
 use Rattle.ways.proofs.Listed.{exact}
@@ -21,7 +21,7 @@ use Rattle.question.specs.Admission.{next}
 use Rattle.question.proofs.Leads.{next-led, led-next}
 use Rattle.portion.specs.Listing.{listingFor, fresh}
 use Rattle.portion.specs.Answers.{Portioned}
-use Rattle.portion.specs.declared.Answer.{Answer}
+use Rattle.refusals.specs.declared.Answer.{Answer}
 use Rattle.portion.proofs.Starting.{asked-proper}
 use Rattle.portion.proofs.Known.{rows, rises, fresh-all, passes}
 use Rattle.join.specs.Lists.{halvesFor, joinFault}

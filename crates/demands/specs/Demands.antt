@@ -10,7 +10,7 @@ use lib.ListN.{length, take}
 use denote.Ref.{RefT, now}
 use Rattle.linkfile.specs.Format.{personCount}
 use Rattle.linkfile.specs.Verdict as verdict
-use Rattle.linkfile.specs.Verdict.{Fault, sound, fault, firstOf}
+use Rattle.refusals.specs.Faults.{Fault, sound, fault, firstOf}
 use Rattle.linkfile.specs.Checked.{fileFault}
 use Rattle.linkfile.specs.Answers.{verdictSaid, Checks, Views}
 use Rattle.linkfile.specs.declared.Verdict.{Verdict}
@@ -25,9 +25,10 @@ use Rattle.question.specs.Asked.{personFault}
 use Rattle.distance.specs.Answers as distance
 use Rattle.distance.specs.declared.Answer as hops
 use Rattle.portion.specs.Listing.{listingFor, Start, fresh, bookmarked, startFault, portionFault}
-use Rattle.portion.specs.Answers.{listed, refused, answerSaid, Portioned}
+use Rattle.portion.specs.Answers.{Portioned}
+use Rattle.refusals.specs.Answers.{listed, refused, answerSaid}
 use Rattle.portion.specs.EndToEnd.{Call, Run, saysEnded, allWrote, allRoom, Brings, EndsRight, Laid, LaidEndToEnd, Resumed}
-use Rattle.portion.specs.declared.Answer.{Answer}
+use Rattle.refusals.specs.declared.Answer.{Answer}
 use Rattle.held.specs.declared.Held.{Held}
 use Rattle.held.specs.Holding.{startOf, MovedOn}
 use Rattle.held.specs.Calls.{Run as HeldRun, Quiet}

@@ -9,13 +9,13 @@ use Prim.Native.Nat.{ℕ, _^_, _≤_, _<_}
 use lib.ListN.{length}
 use lib.Dec.{eqb}
 use Rattle.linkfile.specs.Format.{personCount, linkCount, feedCount}
-use Rattle.linkfile.specs.Verdict.{Fault, sound, fault, unless, firstOf}
+use Rattle.refusals.specs.Faults.{Fault, sound, fault, unless, firstOf}
 use Rattle.linkfile.specs.Checked.{fileFault}
 use Rattle.question.specs.declared.Question.{Question}
 use Rattle.question.specs.Asked.{personFault}
 use Rattle.portion.specs.Listing.{Start, portionFault, portionFor, endedFor}
-use Rattle.portion.specs.Answers.{answerSaid}
-use Rattle.portion.specs.declared.Answer as code
+use Rattle.refusals.specs.Answers.{answerSaid}
+use Rattle.refusals.specs.declared.Answer as code
 use Rattle.held.specs.Holding.{startOf, MovedOn}
 use Rattle.join.specs.Lists.{chainsFor, joinFault, firstOnes, allFit}
 use Rattle.outside.specs.Encoded.{listedNumber, CheckNumber, RowNumber, FewestNumber, PortionNumber, JoinNumber}

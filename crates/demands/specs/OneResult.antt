@@ -13,7 +13,7 @@ use Rattle.distance.specs.Answers.{FewestHops}
 use Rattle.distance.specs.declared.Answer as distance
 use Rattle.portion.specs.Listing.{Start}
 use Rattle.portion.specs.Answers.{Portioned}
-use Rattle.portion.specs.declared.Answer.{Answer}
+use Rattle.refusals.specs.declared.Answer.{Answer}
 use Rattle.held.specs.declared.Held.{Held}
 use Rattle.held.specs.Holding.{MovedOn}
 use Rattle.join.specs.Answers.{Joins}

@@ -3,7 +3,7 @@ use mathlib.Core.Path.{_≡_}
 use mathlib.Core.List.{List}
 use Prim.Native.Nat.{ℕ}
 use Rattle.linkfile.specs.Format.{personCount}
-use Rattle.linkfile.specs.Verdict.{Fault, sound, fault, firstOf}
+use Rattle.refusals.specs.Faults.{Fault, sound, fault, firstOf}
 use Rattle.linkfile.specs.Checked.{fileFault}
 use Rattle.ways.specs.Fewest.{fewest}
 use Rattle.question.specs.Asked.{personFault}

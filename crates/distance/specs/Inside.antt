@@ -4,7 +4,7 @@ use mathlib.Core.List.{List}
 use Prim.Native.Nat.{ℕ, _≤_, _<_}
 use lib.ListN.{length}
 use Rattle.linkfile.specs.Format.{personCount}
-use Rattle.linkfile.specs.Verdict.{sound}
+use Rattle.refusals.specs.Faults.{sound}
 use Rattle.linkfile.specs.Checked.{fileFault}
 use Rattle.ways.specs.Sizes.{mostHops}
 use Rattle.compact.specs.Compact.{persons, Compact}

@@ -7,12 +7,12 @@ pub mod table;
 
 use compact::LINKS;
 use compact::STARTS;
-use linkfile::Fault;
 use linkfile::Verdict;
 use linkfile::header;
 use question::Question;
 use question::faults;
 use question::filling;
+use refusals::Fault;
 ghost use mathlib.Core.Path.{_≡_};
 ghost use Rattle.ways.specs.Fewest.{fewest};
 ghost use Rattle.question.specs.Admission.{next};

@@ -8,7 +8,7 @@ use native.Mathlib.Omega.{arith}
 use lib.ListN.{length}
 use lib.Seq.{take-nil}
 use borrow.Author.Tests.{le-leb, ne-eqb}
-use Rattle.linkfile.specs.Verdict.{Fault, sound, fault}
+use Rattle.refusals.specs.Faults.{Fault, sound, fault}
 use Rattle.ways.specs.Graph.{_∈_}
 use Rattle.ways.specs.Portions.{after, lastOr}
 use Rattle.ways.specs.Records.{roomOf, written, cellsOf}
@@ -17,10 +17,10 @@ use Rattle.ways.proofs.Portions.{lastOr-in, ended-iff}
 use Rattle.question.specs.declared.Question.{Question}
 use Rattle.question.specs.Asked.{askedFault}
 use Rattle.portion.specs.Listing.{Start, bookmarked, startsAfter, startFault, listingFor, portionFault, portionFor}
-use Rattle.portion.specs.Answers.{Answer, listed, refused, answerSaid}
+use Rattle.refusals.specs.Answers.{Answer, listed, refused, answerSaid}
 use Rattle.portion.specs.EndToEnd as portions
 use Rattle.portion.specs.EndToEnd.{Call, countOf, startBehind, LaidEndToEnd, Resumed}
-use Rattle.portion.specs.declared.Answer as code
+use Rattle.refusals.specs.declared.Answer as code
 use Rattle.portion.proofs.Known.{portion-in, rises, passes, kept}
 use Rattle.portion.proofs.LaidEnd.{laid-end-to-end, laid-behind}
 use Rattle.held.specs.declared.Held.{Held}

@@ -6,8 +6,9 @@ use Prim.Native.Nat.{ℕ, _≤_, _<_}
 use native.Mathlib.Omega.{arith}
 use lib.ListN.{length}
 use Rattle.portion.specs.Listing.{portionFor}
-use Rattle.portion.specs.Answers.{answerSaid, Portioned}
-use Rattle.portion.specs.declared.Answer as code
+use Rattle.portion.specs.Answers.{Portioned}
+use Rattle.refusals.specs.Answers.{answerSaid}
+use Rattle.refusals.specs.declared.Answer as code
 use Rattle.portion.specs.EndToEnd.{lastRecord}
 use Rattle.portion.proofs.Telling.{listed-sound, listed-count, listed-last, refused-fault}
 use Rattle.held.specs.declared.Held.{Held}

@@ -6,9 +6,9 @@ use mathlib.Core.List.{List, [], _∷_}
 use Prim.Native.Nat.{ℕ, _≤_}
 use lib.ListN.{length}
 use Rattle.ways.specs.Sizes.{recordSize}
-use Rattle.portion.specs.Answers.{listed, refused, answerSaid}
+use Rattle.refusals.specs.Answers.{listed, refused, answerSaid}
 use Rattle.portion.specs.EndToEnd.{Call}
-use Rattle.portion.specs.declared.Answer as code
+use Rattle.refusals.specs.declared.Answer as code
 use Rattle.held.specs.declared.Held.{Held}
 use Rattle.held.specs.Holding.{MovedOn}
 

@@ -3,13 +3,13 @@
 use mathlib.Core.Path.{_≡_}
 use mathlib.Core.List.{List, [], _∷_}
 use Prim.Native.Nat.{ℕ}
-use Rattle.linkfile.specs.Verdict.{Fault, sound, fault}
+use Rattle.refusals.specs.Faults.{Fault, sound, fault}
 use Rattle.ways.specs.Portions.{lastOr}
 use Rattle.ways.specs.Records.{recordOf}
 use Rattle.ways.specs.Sizes.{recordSize}
 use Rattle.portion.specs.Listing.{Start, startSaid, portionFault, portionFor}
 use Rattle.portion.specs.Answers.{Portioned}
-use Rattle.portion.specs.declared.Answer as code
+use Rattle.refusals.specs.declared.Answer as code
 use Rattle.held.specs.declared.Held.{Held}
 
 -- where the next portion starts. "A held listing not yet started ignores its record."

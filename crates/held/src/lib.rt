@@ -3,8 +3,8 @@
 // One call moves it on by a portion. `moved` does the work on values; `advance` changes the desk's own held listing in its place;
 // `advanced` is the face for every other caller, from values to values through `advance`. All three have one promise. A call that
 // hands over no chain, and a refusal, change nothing. Calls one after another hand over the listing end to end: proofs/Onward.
-use portion::Answer;
 use question::Question;
+use refusals::Answer;
 use ways::RECORD;
 ghost use mathlib.Core.Path.{_≡_};
 ghost use Prim.Native.Nat.{_+_, _≤_};

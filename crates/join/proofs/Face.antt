@@ -28,7 +28,7 @@ use Rattle.join.specs.Answers.{Passed, halvesIn, JoinsIn}
 use Rattle.half_chains.specs.Pages.{page}
 use Rattle.half_chains.specs.Walks.{rightsOf}
 use Rattle.half_chains.specs.Shelf.{Ended, nothing, halvesBefore, placesAtMost, Shelve, Shelved, fromOne, waysOf, Gather, Gathered}
-use Rattle.portion.specs.declared.Answer as code
+use Rattle.refusals.specs.declared.Answer as code
 use Rattle.half_chains.specs.declared.extend.Found.{Found}
 use Rattle.half_chains.proofs.Meeting.{meet-all}
 use Rattle.pages.proofs.Recording.{records-blank, records-first}

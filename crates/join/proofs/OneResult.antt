@@ -8,7 +8,7 @@ use native.Mathlib.Omega.{arith}
 use lib.ListN.{length}
 use lib.Seq.{take-all}
 use borrow.Author.Tests.{leb-true}
-use Rattle.linkfile.specs.Verdict.{Fault, sound, fault}
+use Rattle.refusals.specs.Faults.{Fault, sound, fault}
 use Rattle.ways.specs.Graph.{_∈_}
 use Rattle.ways.specs.Listing.{listing}
 use Rattle.ways.specs.Records.{roomOf, written}
@@ -17,10 +17,11 @@ use Rattle.ways.proofs.ByHops.{byHops-iff}
 use Rattle.question.specs.declared.Question.{Question}
 use Rattle.question.specs.Admission.{next}
 use Rattle.join.specs.Lists.{chainsFor, joinFault, firstOnes, allFit}
-use Rattle.portion.specs.Answers.{Answer, listed, answerFor, cellsFor}
+use Rattle.portion.specs.Answers.{cellsFor}
+use Rattle.refusals.specs.Answers.{Answer, listed, answerFor}
 use Rattle.join.specs.Answers.{Joins}
-use Rattle.portion.specs.declared.Answer as code
-use Rattle.portion.proofs.OneResult.{answer-said}
+use Rattle.refusals.specs.declared.Answer as code
+use Rattle.refusals.proofs.Answers.{answer-said}
 
 pub join-one : {file : List ℕ} {q : Question} {working working₁ working₂ out out₁ out₂ : List ℕ} {a b : code.Answer} → Joins file q working working₁ out out₁ a → Joins file q working working₂ out out₂ b
     → (a ≡ b) × (working₁ ≡ working₂) × (out₁ ≡ out₂)

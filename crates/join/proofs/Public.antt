@@ -7,11 +7,11 @@ use lib.ListN.{length, replicate, length-replicate, getD-replicate, List·getD-e
 use native.Mathlib.Omega.{arith}
 use borrow.Author.Tests.{le-leb, lt-leb}
 use Rattle.linkfile.specs.Format.{personCount, linkCount, feedCount}
-use Rattle.linkfile.specs.Verdict.{Fault, sound, fault, firstOf, faultSaid}
+use Rattle.refusals.specs.Faults.{Fault, sound, fault, firstOf, faultSaid}
 use Rattle.linkfile.specs.Checked.{fileFault}
 use Rattle.linkfile.specs.Inside.{Laid}
 use Rattle.linkfile.specs.declared.Counts.{Counts}
-use Rattle.linkfile.specs.declared.Fault as look
+use Rattle.refusals.specs.declared.Fault as look
 use Rattle.linkfile.proofs.Passed as file-passed
 use Rattle.ways.specs.Graph.{Graph, _∈_}
 use Rattle.ways.specs.ByHops.{byHops}
@@ -22,13 +22,13 @@ use Rattle.ways.proofs.Halves.{halves-exact, halves-ordered, halves-determined}
 use Rattle.compact.specs.Compact.{persons, graphOf}
 use Rattle.question.specs.declared.Question.{Question}
 use Rattle.question.specs.Asked.{askedFault, questionFault, Asks}
-use Rattle.linkfile.proofs.Faults.{first-both}
+use Rattle.refusals.proofs.Faults.{first-both}
 use Rattle.question.specs.Filled.{Filled, Fillable}
 use Rattle.question.proofs.Refused.{asked-passed}
 use Rattle.question.proofs.Leads.{next-none}
 use Rattle.join.specs.Lists.{halvesFor, chainsFor, roomFault, halvesFault, joinFault}
 use Rattle.join.specs.Answers.{Answered, Joins, Passed, halvesIn, JoinsIn}
-use Rattle.portion.specs.declared.Answer as code
+use Rattle.refusals.specs.declared.Answer as code
 use Rattle.half_chains.proofs.Standing.{low-persons}
 
 -- a refusal: nothing has changed

@@ -5,7 +5,7 @@ use Prim.Native.Nat.{ℕ}
 use lib.ListN.{length, take}
 use lib.Dec.{leb}
 use Rattle.linkfile.specs.Format.{personCount}
-use Rattle.linkfile.specs.Verdict.{Fault, sound, unless, firstOf}
+use Rattle.refusals.specs.Faults.{Fault, sound, unless, firstOf}
 use Rattle.ways.specs.Records.{roomOf}
 use Rattle.ways.specs.ByHops.{byHops}
 use Rattle.ways.specs.Halves.{halves, halvesFit}

@@ -10,9 +10,9 @@ use compact::STARTS;
 use half_chains::INDEX;
 use half_chains::chains;
 use half_chains::halves;
-use linkfile::Fault;
-use portion::Answer;
 use question::Question;
+use refusals::Answer;
+use refusals::Fault;
 use ways::RECORD;
 
 // The join over the compact graph: the half chains are counted before any cell is written.

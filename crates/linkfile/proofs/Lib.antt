@@ -1,6 +1,5 @@
 -- Laws of this room: what the looks find, what a file that passes is, and one result only.
 pub mod Classes
-pub mod Faults
 pub mod Counted
 pub mod Tabled
 pub mod Passed

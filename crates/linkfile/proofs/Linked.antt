@@ -8,9 +8,9 @@ use lib.Dec.{eqb, leb, ltb}
 use borrow.Author.Tests.{ltb-true, eqb-false, leb-true, ne-eqb, not-true}
 use Rattle.linkfile.specs.Format.{personCount, feedCount, row, target, day, feedIndex, kind, linkZero}
 use Rattle.linkfile.specs.Kinds.{classOf, known}
-use Rattle.linkfile.specs.Verdict.{Fault, sound, unless}
+use Rattle.refusals.specs.Faults.{sound}
 use Rattle.linkfile.specs.Checked.{lastDay, targetRises, linkRuled, linkFault, ownedFault}
-use Rattle.linkfile.proofs.Faults.{first-none}
+use Rattle.refusals.proofs.Faults.{first-none, unless-none}
 use Rattle.linkfile.proofs.Counted.{halves}
 use Rattle.linkfile.proofs.Passed.{Passed, tables-sound}
 
@@ -22,11 +22,6 @@ pub record Link (file : List ℕ) (owner link : ℕ) : Type 0 where
   pub fed : feedIndex file link < feedCount file
   pub classed : known (classOf (kind file link)) ≡ true
   pub dated : day file link ≤ lastDay
-
--- no fault behind a rule is no fault of the rule, and none after it
-pub unless-none : (rule : Bool) (number place : ℕ) {after : Fault} → unless rule number place after ≡ sound → (rule ≡ true) × (after ≡ sound)
-unless-none true number place e = (refl, e)
-unless-none false number place e = let z : _≡_ {A = ℕ} 0 1 = cc in absurd (omega arith)
 
 -- a link without a fault
 pub link-facts : (file : List ℕ) (owner link : ℕ) → linkFault file owner link ≡ sound → Link file owner link

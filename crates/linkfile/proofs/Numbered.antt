@@ -8,7 +8,8 @@ use lib.Dec.{leb}
 use Rattle.linkfile.specs.Numbers.{within}
 use Rattle.linkfile.specs.Format.{marked, countsFit, laidOut, personCount, linkCount, feedCount, row, meaning, day, kind}
 use Rattle.linkfile.specs.Kinds.{classOf, known}
-use Rattle.linkfile.specs.Verdict.{Fault, sound, fault, unless, firstOf, firstAmong, Numbered}
+use Rattle.refusals.specs.Faults.{sound, unless, firstOf, firstAmong, Numbered}
+use Rattle.refusals.proofs.Numbered.{numbered-where, numbered-unless, numbered-then, numbered-first, numbered-among}
 use Rattle.linkfile.specs.Checked.{lastDay, feedRuled, feedFault, rowRuled, rowFault, linkRuled, linkFault, ownedFault, tablesFault, fileFault}
 use Rattle.linkfile.specs.Inside.{Laid}
 use Rattle.linkfile.specs.Answers.{verdictSaid, Checks}
@@ -17,32 +18,6 @@ use Rattle.linkfile.specs.declared.Counts.{Counts}
 use Rattle.linkfile.proofs.Counted.{counts-fit, laid-out-long}
 use Rattle.linkfile.proofs.Tabled.{rows-below}
 use Rattle.linkfile.proofs.Passed.{refused-verdict}
-
--- a rule, and what is looked at where it holds
-numbered-where : (last : ℕ) (rule : Bool) (number place : ℕ) (after : Fault) → Numbered last (fault number place) → (rule ≡ true → Numbered last after) → Numbered last (unless rule number place after)
-numbered-where last true number place after h rest = rest refl
-numbered-where last false number place after h rest = h
-
-pub numbered-unless : (last : ℕ) (rule : Bool) (number place : ℕ) (after : Fault) → Numbered last (fault number place) → Numbered last after → Numbered last (unless rule number place after)
-numbered-unless last rule number place after h rest = numbered-where last rule number place after h (λ holds. rest)
-
-pub numbered-more : (a b : ℕ) → a ≤ b → (f : Fault) → Numbered a f → Numbered b f
-numbered-more a b h sound i = tt
-numbered-more a b h (fault number place) i = (i .0, omega (arith, i .1), i .2)
-
--- a look, and the next one where it finds nothing
-numbered-then : (last : ℕ) (a b : Fault) → Numbered last a → (a ≡ sound → Numbered last b) → Numbered last (firstOf a b)
-numbered-then last sound b h i = i refl
-numbered-then last (fault number place) b h i = h
-
-pub numbered-first : (last : ℕ) (a b : Fault) → Numbered last a → Numbered last b → Numbered last (firstOf a b)
-numbered-first last a b h i = numbered-then last a b h (λ none. i)
-
-numbered-among : (last : ℕ) (look : ℕ → Fault) (from count : ℕ) → ((at : ℕ) → at < from + count → Numbered last (look at)) → Numbered last (firstAmong look from count)
-unfolding firstAmong
-numbered-among last look from zero h = tt
-numbered-among last look from (suc count) h =
-    numbered-first last (look from) (firstAmong look (suc from) count) (h from (omega arith)) (numbered-among last look (suc from) count (λ at below. h at (omega arith)))
 
 feed-numbered : (file : List ℕ) (feed : ℕ) → feed < 2 ^ 32 → Numbered 9 (feedFault file feed)
 unfolding feedFault

@@ -5,13 +5,14 @@ use mathlib.Core.List.{List}
 use Prim.Native.Nat.{ℕ, _+_, _<_, _≤_}
 use native.Mathlib.Omega.{arith}
 use Rattle.linkfile.specs.Format.{marked, countsFit, laidOut, personCount, linkCount, feedCount, row}
-use Rattle.linkfile.specs.Verdict.{Fault, sound, fault, unless, firstOf, firstAmong, Verdict, passed, refused, verdict}
+use Rattle.linkfile.specs.Verdict.{Verdict, passed, refused, verdict}
+use Rattle.refusals.specs.Faults.{Fault, sound, fault, unless, firstOf, firstAmong}
 use Rattle.linkfile.specs.Checked.{feedFault, rowFault, ownedFault, tablesFault, fileFault, checked}
 use Rattle.linkfile.specs.Inside.{Laid, Rowed}
 use Rattle.linkfile.specs.Answers.{verdictSaid, Checks}
 use Rattle.linkfile.specs.declared.Verdict as code
 use Rattle.linkfile.specs.declared.Counts.{Counts}
-use Rattle.linkfile.proofs.Faults.{first-both}
+use Rattle.refusals.proofs.Faults.{first-both}
 use Rattle.linkfile.proofs.Counted.{Fitting, counts-fit}
 use Rattle.linkfile.proofs.Tabled.{rows-keep, rows-below}
 

@@ -6,22 +6,17 @@ use Prim.Native.Nat.{ℕ, zero, suc, _+_, _-_, _<_, _≤_}
 use native.Mathlib.Omega.{arith}
 use borrow.Author.Tests.{leb-true, eqb-true, ne-eqb, eq-eqb}
 use Rattle.linkfile.specs.Format.{personCount, linkCount, row}
-use Rattle.linkfile.specs.Verdict.{sound, unless}
+use Rattle.refusals.specs.Faults.{sound, unless}
 use Rattle.linkfile.specs.Checked.{rowStartsOrKeeps, rowEnds, rowRuled, rowFault, linkFault, ownedFault}
 use Rattle.linkfile.specs.Inside.{Rowed}
 use Rattle.linkfile.specs.declared.Counts.{Counts}
-use Rattle.linkfile.proofs.Faults.{Looking, look-starts, first-none}
+use Rattle.refusals.proofs.Faults.{Looking, look-starts, first-none, unless-none}
 use Rattle.linkfile.proofs.Counted.{halves}
-
--- where there is no fault the rule holds
-pub ruled : (rule : Bool) (number place : ℕ) → unless rule number place sound ≡ sound → rule ≡ true
-ruled true number place e = refl
-ruled false number place e = let z : _≡_ {A = ℕ} 0 1 = cc in absurd (omega arith)
 
 module _ {file : List ℕ} {counts : Counts} (r : Rowed file counts) where
   row-holds : (entry : ℕ) → entry ≤ counts .persons → (rowStartsOrKeeps file entry ≡ true) × (rowEnds file entry ≡ true)
   unfolding rowFault rowRuled
-  row-holds entry h = halves (rowStartsOrKeeps file entry) (rowEnds file entry) (ruled (rowStartsOrKeeps file entry && rowEnds file entry) 6 entry (first-none (rowFault file) 0 (personCount file + 1) entry (r .rows) (omega arith) (omega (arith, r .laid))))
+  row-holds entry h = halves (rowStartsOrKeeps file entry) (rowEnds file entry) (unless-none (rowStartsOrKeeps file entry && rowEnds file entry) 6 entry (first-none (rowFault file) 0 (personCount file + 1) entry (r .rows) (omega arith) (omega (arith, r .laid))) .0)
 
   pub rows-keep : (owner : ℕ) → owner < counts .persons → row file owner ≤ row file (owner + 1)
   unfolding rowStartsOrKeeps

@@ -6,7 +6,8 @@ use lib.Dec.{eqb, leb, ltb}
 use Rattle.linkfile.specs.Numbers.{within}
 use Rattle.linkfile.specs.Format.{marked, countsFit, laidOut, personCount, linkCount, feedCount, archive, meaning, feedZero, row, target, day, feedIndex, kind, linkZero}
 use Rattle.linkfile.specs.Kinds.{classOf, known}
-use Rattle.linkfile.specs.Verdict.{Fault, sound, unless, firstOf, firstAmong, Verdict, verdict}
+use Rattle.linkfile.specs.Verdict.{Verdict, verdict}
+use Rattle.refusals.specs.Faults.{Fault, sound, unless, firstOf, firstAmong}
 
 -- A feed: archive number 1 or more, strictly rising, a zero byte.
 unfoldable pub archiveRises : List ℕ → ℕ → Bool

@@ -4,7 +4,7 @@ use mathlib.Core.List.{List}
 use Prim.Native.Nat.{ℕ, _+_, _≤_, _<_}
 use lib.ListN.{length}
 use Rattle.linkfile.specs.Format.{personCount, linkCount, feedCount, lengthFor, row}
-use Rattle.linkfile.specs.Verdict.{sound, firstAmong}
+use Rattle.refusals.specs.Faults.{sound, firstAmong}
 use Rattle.linkfile.specs.Checked.{rowFault}
 use Rattle.linkfile.specs.declared.Counts.{Counts}
 

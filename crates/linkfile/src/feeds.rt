@@ -1,12 +1,12 @@
 // The feed table.
 use crate::Counts;
-use crate::Fault;
 use crate::numbers;
+use refusals::Fault;
 ghost use mathlib.Core.Path.{_≡_};
 ghost use Prim.Native.Nat.{_+_, _≤_, _<_};
 ghost use lib.ListN.{length};
 ghost use Rattle.linkfile.specs.Format.{archive, meaning, feedAt, feedCount};
-ghost use Rattle.linkfile.specs.Verdict.{faultSaid, firstAmong};
+ghost use Rattle.refusals.specs.Faults.{faultSaid, firstAmong};
 ghost use Rattle.linkfile.specs.Checked.{archiveRises, feedRuled, feedFault};
 ghost use Rattle.linkfile.specs.Inside.{Laid};
 

@@ -10,8 +10,9 @@ pub mod links;
 pub mod numbers;
 pub mod rows;
 
+use refusals::Fault;
 ghost use mathlib.Core.Path.{_≡_};
-ghost use Rattle.linkfile.specs.Verdict.{faultSaid};
+ghost use Rattle.refusals.specs.Faults.{faultSaid};
 ghost use Rattle.linkfile.specs.Checked.{tablesFault};
 ghost use Rattle.linkfile.specs.Inside.{Laid};
 ghost use Rattle.linkfile.specs.Answers.{Checks, Views};
@@ -27,12 +28,6 @@ pub enum Verdict {
         number: u32,
         place: u32,
     },
-}
-
-// What a look at one place finds: nothing wrong, or the number of a refusal and its place.
-pub enum Fault {
-    Sound,
-    At(u32, u32),
 }
 
 // A class, or unknown.

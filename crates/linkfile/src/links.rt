@@ -1,17 +1,17 @@
 // The link table: where a link stands, its fields, and its rules.
 use crate::Class;
 use crate::Counts;
-use crate::Fault;
 use crate::kinds;
 use crate::numbers;
 use crate::rows;
+use refusals::Fault;
 ghost use mathlib.Core.Path.{_≡_};
 ghost use Prim.Native.Nat.{_+_, _*_, _≤_, _<_};
 ghost use lib.ListN.{length};
 ghost use Rattle.linkfile.specs.Numbers.{byte, number16, number32};
 ghost use Rattle.linkfile.specs.Format.{personCount, linksStart};
 ghost use Rattle.linkfile.specs.Kinds.{classOf, known};
-ghost use Rattle.linkfile.specs.Verdict.{faultSaid, firstAmong};
+ghost use Rattle.refusals.specs.Faults.{faultSaid, firstAmong};
 ghost use Rattle.linkfile.specs.Checked.{targetRises, linkRuled, linkFault, ownedFault};
 ghost use Rattle.linkfile.specs.Inside.{Owned, Rowed};
 

@@ -1,11 +1,11 @@
 // The row table.
 use crate::Counts;
-use crate::Fault;
 use crate::numbers;
+use refusals::Fault;
 ghost use mathlib.Core.Path.{_≡_};
 ghost use Prim.Native.Nat.{_+_, _≤_};
 ghost use Rattle.linkfile.specs.Format.{personCount, row};
-ghost use Rattle.linkfile.specs.Verdict.{faultSaid, firstAmong};
+ghost use Rattle.refusals.specs.Faults.{faultSaid, firstAmong};
 ghost use Rattle.linkfile.specs.Checked.{rowStartsOrKeeps, rowEnds, rowFault};
 ghost use Rattle.linkfile.specs.Inside.{Laid};
 

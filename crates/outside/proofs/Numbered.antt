@@ -7,7 +7,7 @@ use native.Mathlib.Omega.{arith}
 use lib.ListN.{length, length-take}
 use mir.Val.{boolByte}
 use Rattle.linkfile.specs.Format.{personCount}
-use Rattle.linkfile.specs.Verdict.{Fault, sound, fault, firstOf, Numbered}
+use Rattle.refusals.specs.Faults.{Fault, sound, fault, firstOf, Numbered}
 use Rattle.linkfile.specs.Checked.{fileFault}
 use Rattle.ways.specs.Fewest.{fewest}
 use Rattle.ways.specs.Portions.{after}
@@ -21,7 +21,7 @@ use Rattle.distance.specs.Answers as distance
 use Rattle.distance.specs.declared.Answer as distance-code
 use Rattle.portion.specs.Listing.{listingFor, Start, portionFault, portionFor, endedFor, startsAfter}
 use Rattle.portion.specs.Answers as portion
-use Rattle.portion.specs.declared.Answer as portion-code
+use Rattle.refusals.specs.declared.Answer as portion-code
 use Rattle.portion.proofs.Numbered.{portion-numbered}
 use Rattle.join.specs.Lists as lists
 use Rattle.join.specs.Answers.{Joins}

@@ -8,8 +8,8 @@ use lib.Dec.{eqb}
 use borrow.Author.Tests.{eqb-true, eqb-false}
 use Rattle.question.specs.declared.Question.{Question}
 use Rattle.portion.specs.Listing.{Start}
-use Rattle.portion.specs.Answers.{answerSaid}
-use Rattle.portion.specs.declared.Answer as code
+use Rattle.refusals.specs.Answers.{answerSaid}
+use Rattle.refusals.specs.declared.Answer as code
 use Rattle.portion.proofs.OneResult.{portion-one}
 use Rattle.held.proofs.OneResult.{held-one}
 use Rattle.join.proofs.OneResult.{join-one}

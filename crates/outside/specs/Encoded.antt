@@ -11,7 +11,7 @@ use Rattle.question.specs.declared.Question.{Question}
 use Rattle.distance.specs.Answers as distance
 use Rattle.portion.specs.Answers as portion
 use Rattle.portion.specs.Listing.{Start}
-use Rattle.portion.specs.declared.Answer as code
+use Rattle.refusals.specs.declared.Answer as code
 use Rattle.join.specs.Answers.{Joins}
 
 -- the seven numbers of a question, in the customer's order

@@ -4,8 +4,8 @@ use mathlib.Core.List.{List, [], _∷_}
 use Prim.Native.Nat.{ℕ, _^_}
 use lib.ListN.{length, getD}
 use lib.Seq.{sets}
-use Rattle.portion.specs.Answers.{answerSaid}
-use Rattle.portion.specs.declared.Answer as code
+use Rattle.refusals.specs.Answers.{answerSaid}
+use Rattle.refusals.specs.declared.Answer as code
 use Rattle.held.specs.declared.Held.{Held}
 use Rattle.held.specs.Holding.{MovedOn}
 use Rattle.outside.specs.Encoded.{asking, Small, listedNumber}

@@ -3,12 +3,12 @@
 // Every function is total: any bytes, any numbers. Each is a thin face over one public operation of the rooms below, and its
 // contract is that operation's answer in the encoding of specs/. A refusal is 2^63 + number * 2^32 + place.
 use linkfile::Verdict;
-use portion::Answer;
 use question::Question;
+use refusals::Answer;
 ghost use mathlib.Core.Path.{_≡_};
 ghost use lib.ListN.{length};
 ghost use Rattle.portion.specs.Listing.{startSaid};
-ghost use Rattle.portion.specs.Answers.{answerSaid};
+ghost use Rattle.refusals.specs.Answers.{answerSaid};
 ghost use Rattle.outside.specs.Encoded.{CheckNumber, RowNumber, FewestNumber, Small, listedNumber, PortionNumber, JoinNumber, asking};
 ghost use Rattle.outside.specs.HeldCells.{heldOf, heldCells, HeldNumber};
 use held::Held;

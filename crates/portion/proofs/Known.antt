@@ -5,7 +5,7 @@ use Prim.Native.Nat.{ℕ, suc, _-_, _<_, _≤_}
 use native.Mathlib.Omega.{arith}
 use lib.ListN.{length}
 use borrow.Author.Tests.{le-leb}
-use Rattle.linkfile.specs.Verdict.{sound}
+use Rattle.refusals.specs.Faults.{sound}
 use Rattle.linkfile.proofs.Passed.{sound-rules}
 use Rattle.ways.specs.Graph.{_∈_}
 use Rattle.ways.specs.Order.{Before, Rising}

@@ -6,8 +6,8 @@ use Prim.Native.Nat.{ℕ, _*_, _≤_}
 use native.Mathlib.Omega.{arith}
 use lib.ListN.{length, take, drop}
 use lib.Seq.{take-at, take-add}
-use Rattle.linkfile.specs.Verdict.{sound}
-use Rattle.linkfile.proofs.Linked.{unless-none}
+use Rattle.refusals.specs.Faults.{sound}
+use Rattle.refusals.proofs.Faults.{unless-none}
 use Rattle.ways.specs.Graph.{_∈_}
 use Rattle.ways.specs.Portions.{after, lastOr}
 use Rattle.ways.specs.Records.{chainOf, cellsOf, written, isRecordIn}
@@ -18,9 +18,10 @@ use Rattle.ways.proofs.Records.{length-cellsOf, cellsOf-append, isRecordIn-iff}
 use Rattle.question.specs.declared.Question.{Question}
 use Rattle.question.specs.Asked.{askedFault}
 use Rattle.portion.specs.Listing.{listingFor, Start, fresh, bookmarked, startsAfter, startFault, portionFault, portionFor, endedFor}
-use Rattle.portion.specs.Answers.{Answer, listed, answerSaid, Portioned}
+use Rattle.portion.specs.Answers.{Portioned}
+use Rattle.refusals.specs.Answers.{Answer, listed, answerSaid}
 use Rattle.portion.specs.EndToEnd.{Call, countOf, saysEnded, startBehind, Run, done, call, allRoom, roomIn, Laid, LaidEndToEnd, Resumed}
-use Rattle.portion.specs.declared.Answer as code
+use Rattle.refusals.specs.declared.Answer as code
 use Rattle.portion.proofs.Known.{portion-in, rises, fits, fresh-all, passes, last-kept}
 
 module _ (file : List ℕ) (q : Question) (asked : askedFault file q ≡ sound) where

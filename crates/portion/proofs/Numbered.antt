@@ -4,8 +4,8 @@ use Prim.Native.Nat.{ℕ}
 use native.Mathlib.Omega.{arith}
 use lib.ListN.{length}
 use lib.Dec.{leb}
-use Rattle.linkfile.specs.Verdict.{sound, unless, Numbered}
-use Rattle.linkfile.proofs.Numbered.{numbered-unless, numbered-first, numbered-more}
+use Rattle.refusals.specs.Faults.{sound, unless, Numbered}
+use Rattle.refusals.proofs.Numbered.{numbered-unless, numbered-first, numbered-more}
 use Rattle.ways.specs.Records.{isRecordIn}
 use Rattle.ways.specs.Sizes.{recordSize}
 use Rattle.question.specs.declared.Question.{Question}

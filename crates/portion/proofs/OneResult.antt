@@ -5,8 +5,9 @@ use Prim.Native.Nat.{ℕ}
 use native.Mathlib.Omega.{arith}
 use Rattle.question.specs.declared.Question.{Question}
 use Rattle.portion.specs.Listing.{Start}
-use Rattle.portion.specs.Answers.{answerSaid, Portioned}
-use Rattle.portion.specs.declared.Answer as code
+use Rattle.portion.specs.Answers.{Portioned}
+use Rattle.refusals.specs.Answers.{answerSaid}
+use Rattle.refusals.specs.declared.Answer as code
 
 -- what an answer says tells which answer it is
 pub answer-said : (a b : code.Answer) → answerSaid a ≡ answerSaid b → a ≡ b

@@ -8,9 +8,9 @@ use lib.ListN.{length}
 use lib.Dec.{eqb}
 use borrow.Author.Tests.{le-leb, lt-leb, ne-eqb}
 use Rattle.linkfile.specs.Format.{personCount}
-use Rattle.linkfile.specs.Verdict.{sound, fault, unless}
+use Rattle.refusals.specs.Faults.{sound, fault, unless}
 use Rattle.linkfile.specs.Checked.{fileFault}
-use Rattle.linkfile.proofs.Faults.{first-both}
+use Rattle.refusals.proofs.Faults.{first-both}
 use Rattle.linkfile.proofs.Passed.{sound-rules, passed-fits}
 use Rattle.ways.specs.Graph.{Graph}
 use Rattle.ways.specs.Listing.{listing}
@@ -29,7 +29,7 @@ use Rattle.portion.specs.Listing.{Start, fresh, bookmarked, startSaid, s
 use Rattle.portion.specs.Bookmark.{startFits}
 use Rattle.portion.specs.Inside.{Passes}
 use Rattle.portion.specs.Answers.{Portioned}
-use Rattle.portion.specs.declared.Answer as code
+use Rattle.refusals.specs.declared.Answer as code
 use Rattle.portion.proofs.Bookmarks.{bookmark-is}
 
 -- a file and a question that have passed

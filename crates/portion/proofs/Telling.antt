@@ -6,9 +6,9 @@ use Prim.Native.Nat.{ℕ, _+_, _-_, _*_, _≤_, _<_}
 use native.Mathlib.Omega.{arith}
 use lib.ListN.{length, drop, length-take}
 use lib.Dec.{leb}
-use Rattle.linkfile.specs.Verdict.{Fault, sound, fault, unless}
-use Rattle.linkfile.proofs.Faults.{first-both}
-use Rattle.linkfile.proofs.Linked.{unless-none}
+use Rattle.refusals.specs.Faults.{Fault, sound, fault, unless}
+use Rattle.refusals.proofs.Faults.{first-both}
+use Rattle.refusals.proofs.Faults.{unless-none}
 use Rattle.ways.specs.Graph.{_∈_}
 use Rattle.ways.specs.Portions.{after, lastOr}
 use Rattle.ways.specs.Records.{recordOf, Fits, roomOf, written}
@@ -17,9 +17,10 @@ use Rattle.ways.proofs.Records.{length-written, room-within}
 use Rattle.question.specs.declared.Question.{Question}
 use Rattle.question.specs.Asked.{askedFault}
 use Rattle.portion.specs.Listing.{Start, startsAfter, startFault, listingFor, portionFault, portionFor, endedFor}
-use Rattle.portion.specs.Answers.{listed, refused, answerSaid, answerFor, Portioned}
+use Rattle.portion.specs.Answers.{Portioned}
+use Rattle.refusals.specs.Answers.{listed, refused, answerSaid, answerFor}
 use Rattle.portion.specs.EndToEnd.{lastRecord}
-use Rattle.portion.specs.declared.Answer as code
+use Rattle.refusals.specs.declared.Answer as code
 use Rattle.portion.proofs.Records.{last-record}
 use Rattle.portion.proofs.Known.{portion-in, fits}
 

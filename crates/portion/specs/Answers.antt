@@ -4,11 +4,11 @@ use mathlib.Core.List.{List}
 use mathlib.Core.Bool.{Bool}
 use Prim.Native.Nat.{ℕ}
 use lib.ListN.{length}
-use Rattle.linkfile.specs.Verdict.{Fault, sound, fault}
+use Rattle.refusals.specs.Faults.{Fault, sound, fault}
 use Rattle.ways.specs.Records.{written}
 use Rattle.ways.specs.Sizes.{recordSize}
 use Rattle.question.specs.declared.Question.{Question}
-use Rattle.portion.specs.declared.Answer as code
+use Rattle.refusals.specs.declared.Answer as code
 use Rattle.portion.specs.Listing.{Start, portionFault, portionFor, endedFor}
 
 -- "The answer is one of two cases, listed or refused": how many and whether the listing has ended, or number and place

@@ -8,9 +8,10 @@ use lib.ListN.{length, take, drop}
 use Rattle.ways.specs.Records.{chainOf, roomOf, cellsOf}
 use Rattle.ways.specs.Sizes.{recordSize}
 use Rattle.question.specs.declared.Question.{Question}
-use Rattle.portion.specs.declared.Answer as code
+use Rattle.refusals.specs.declared.Answer as code
 use Rattle.portion.specs.Listing.{listingFor, Start, bookmarked}
-use Rattle.portion.specs.Answers.{Answer, listed, refused, answerSaid, Portioned}
+use Rattle.portion.specs.Answers.{Portioned}
+use Rattle.refusals.specs.Answers.{Answer, listed, refused, answerSaid}
 
 -- one call: the output as it was lent and at exit, and the answer
 pub record Call : Type 0 where

@@ -4,7 +4,7 @@ use mathlib.Core.Bool.{Bool, cond}
 use Prim.Native.Nat.{ℕ}
 use lib.ListN.{length}
 use lib.Dec.{eqb, leb}
-use Rattle.linkfile.specs.Verdict.{Fault, sound, unless, firstOf}
+use Rattle.refusals.specs.Faults.{Fault, sound, unless, firstOf}
 use Rattle.ways.specs.Listing.{listing}
 use Rattle.ways.specs.Portions.{portion, endedAfter}
 use Rattle.ways.specs.Records.{chainOf, roomOf, isRecordIn}

@@ -11,7 +11,7 @@ use native.Mathlib.Omega.{arith}
 use Rattle.ways.specs.Graph.{keep}
 use Rattle.ways.specs.Order.{Rising}
 use Rattle.linkfile.specs.Format.{personCount, linkCount, feedCount, row, target}
-use Rattle.linkfile.specs.Verdict.{sound}
+use Rattle.refusals.specs.Faults.{sound}
 use Rattle.linkfile.specs.Checked.{fileFault}
 use Rattle.linkfile.specs.Inside.{Laid}
 use Rattle.linkfile.specs.declared.Counts.{Counts}

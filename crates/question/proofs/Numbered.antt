@@ -6,9 +6,10 @@ use native.Mathlib.Omega.{arith}
 use lib.Dec.{eqb, ltb}
 use Rattle.linkfile.specs.Numbers.{within}
 use Rattle.linkfile.specs.Format.{personCount}
-use Rattle.linkfile.specs.Verdict.{Fault, sound, unless, firstOf, Numbered}
+use Rattle.refusals.specs.Faults.{Fault, sound, unless, firstOf, Numbered}
 use Rattle.linkfile.specs.Checked.{fileFault}
-use Rattle.linkfile.proofs.Numbered.{numbered-unless, numbered-first, numbered-more, file-numbered}
+use Rattle.linkfile.proofs.Numbered.{file-numbered}
+use Rattle.refusals.proofs.Numbered.{numbered-unless, numbered-first, numbered-more}
 use Rattle.ways.specs.Sizes.{mostHops}
 use Rattle.question.specs.declared.Question.{Question}
 use Rattle.question.specs.Asked.{daysFit, restFault, questionFault, personFault, askedFault}

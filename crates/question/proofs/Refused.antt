@@ -8,13 +8,13 @@ use native.Mathlib.Omega.{arith}
 use borrow.Author.Tests.{ltb-true, eqb-false, not-true}
 use Rattle.linkfile.specs.Numbers.{within}
 use Rattle.linkfile.specs.Format.{personCount, linkCount, feedCount}
-use Rattle.linkfile.specs.Verdict.{Fault, sound, unless, firstOf, faultSaid}
+use Rattle.refusals.specs.Faults.{Fault, sound, unless, firstOf, faultSaid}
 use Rattle.linkfile.specs.Checked.{fileFault}
-use Rattle.linkfile.specs.declared.Fault as code
-use Rattle.linkfile.proofs.Faults.{first-both}
+use Rattle.refusals.specs.declared.Fault as code
+use Rattle.refusals.proofs.Faults.{first-both}
 use Rattle.linkfile.proofs.Counted.{within-facts}
 use Rattle.linkfile.proofs.Passed.{Passed, sound-rules}
-use Rattle.linkfile.proofs.Linked.{unless-none}
+use Rattle.refusals.proofs.Faults.{unless-none}
 use Rattle.ways.specs.Sizes.{mostHops}
 use Rattle.question.specs.Asked.{endsFault, restFault, questionFault, personFault, Asks}
 use Rattle.question.specs.declared.Question.{Question}

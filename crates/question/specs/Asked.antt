@@ -7,9 +7,9 @@ use Prim.Native.Nat.{ℕ}
 use lib.Dec.{eqb, leb, ltb}
 use Rattle.linkfile.specs.Numbers.{within}
 use Rattle.linkfile.specs.Format.{personCount}
-use Rattle.linkfile.specs.Verdict.{Fault, sound, unless, firstOf, faultSaid}
+use Rattle.refusals.specs.Faults.{Fault, sound, unless, firstOf, faultSaid}
 use Rattle.linkfile.specs.Checked.{lastDay, fileFault}
-use Rattle.linkfile.specs.declared.Fault as code
+use Rattle.refusals.specs.declared.Fault as code
 use Rattle.ways.specs.Sizes.{mostHops}
 use Rattle.question.specs.declared.Question.{Question}
 

@@ -4,7 +4,7 @@ use mathlib.Core.List.{List, _++_}
 use Prim.Native.Nat.{ℕ, suc, _+_, _≤_, _<_}
 use lib.ListN.{length, getD, take}
 use Rattle.linkfile.specs.Format.{personCount, row}
-use Rattle.linkfile.specs.Verdict.{sound}
+use Rattle.refusals.specs.Faults.{sound}
 use Rattle.linkfile.specs.Checked.{fileFault}
 use Rattle.linkfile.specs.Inside.{Laid}
 use Rattle.linkfile.specs.declared.Counts.{Counts}

@@ -1,12 +1,12 @@
 // The refusals of a question, 10 to 15. No test is written twice: the one question of a listing and the one of fewest hops, which
 // names a person more, both begin with the ends and close with the rest.
 use crate::Question;
-use linkfile::Fault;
 use linkfile::links::LAST_DAY;
 use linkfile::numbers;
+use refusals::Fault;
 use ways::HOPS;
 ghost use mathlib.Core.Path.{_≡_};
-ghost use Rattle.linkfile.specs.Verdict.{faultSaid, sound};
+ghost use Rattle.refusals.specs.Faults.{faultSaid, sound};
 ghost use Rattle.question.specs.Asked.{endsFault, daysFit, restFault, questionFault, personFault};
 
 // The most hops, as wide as a question's numbers.

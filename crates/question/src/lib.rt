@@ -7,8 +7,8 @@ mod admission;
 pub mod faults;
 pub mod filling;
 
-use linkfile::Fault;
 use linkfile::Verdict;
+use refusals::Fault;
 ghost use Rattle.question.specs.Asked.{Asks};
 
 // From, to, hops, classes, date meaning, first day, last day.

@@ -1,6 +1,6 @@
 -- `fewest` meets its contract: the file's first fault decides, then the question's, then the hops are counted.
 use mathlib.Core.Path.{sym, ap, _∙_}
-use Rattle.linkfile.specs.Verdict.{faultSaid}
+use Rattle.refusals.specs.Faults.{faultSaid}
 use Rattle.linkfile.specs.Answers.{verdictSaid}
 use Rattle.linkfile.proofs.Passed.{refused-verdict, passed-verdict}
 use Rattle.distance.specs.Answers.{hops, answered}

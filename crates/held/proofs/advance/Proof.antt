@@ -45,7 +45,7 @@ use denote.Exit.{yes}
 use denote.Signature.{plain}
 use Rattle.held.specs.Holding.{MovedOn}
 use Rattle.held.specs.declared.Held.{Held}
-use Rattle.portion.specs.declared.Answer.{Answer}
+use Rattle.refusals.specs.declared.Answer.{Answer}
 use Rattle.held.specs.declared.Outcome.{Outcome}
 use Rattle.held.proofs.Held as T
 use Rattle.held.proofs.Held.Laws as T′

@@ -1,7 +1,7 @@
 -- `moved` meets its contract: the case of the portion's answer says which case of the held listing holds.
 use native.Mathlib.Omega.{arith}
 use mathlib.Core.Path.{ap}
-use Rattle.portion.specs.Answers.{answerSaid}
+use Rattle.refusals.specs.Answers.{answerSaid}
 use Rattle.portion.proofs.Telling.{last-within}
 use Rattle.held.proofs.Telling.{moved-refused, moved-none, moved-some}
 use borrow.Author.Needs.{needs}

@@ -1,6 +1,6 @@
 -- `tables_fault` meets its contract: the first of the three tables that has a fault decides.
 use mathlib.Core.Path.{sym, ap, _∙_}
-use Rattle.linkfile.specs.Verdict.{faultSaid}
+use Rattle.refusals.specs.Faults.{faultSaid}
 use Rattle.linkfile.specs.Checked.{tablesFault}
 use borrow.Author.Needs.{needs}
 use Rattle.linkfile.proofs.tables_fault.Statement.{statement}

@@ -1,10 +1,10 @@
 -- `listed_number` meets its contract: the count and the refusal numbers are small enough for their places in 64 bits.
 use mathlib.Core.Path.{sym, ap, subst}
 use native.Mathlib.Omega.{arith}
-use Rattle.portion.specs.Answers.{answerSaid}
+use Rattle.refusals.specs.Answers.{answerSaid}
 use Rattle.outside.specs.Encoded.{Small, listedNumber}
 use Rattle.outside.proofs.Numbered.{ended-byte, ended-few}
-use Rattle.portion.specs.declared.Answer as code
+use Rattle.refusals.specs.declared.Answer as code
 use borrow.Author.Needs.{needs}
 use Rattle.outside.proofs.listed_number.Statement.{statement}
 use Rattle.outside.proofs.listed_number.Tie as tie

@@ -1,6 +1,6 @@
 -- `portion` meets its contract: the refusals of file, question and output come before the rest.
 use mathlib.Core.Path.{sym, ap, _∙_}
-use Rattle.linkfile.specs.Verdict.{faultSaid}
+use Rattle.refusals.specs.Faults.{faultSaid}
 use Rattle.portion.proofs.Starting.{refused-asked, refused-room}
 use borrow.Author.Needs.{needs}
 use Rattle.portion.proofs.portion.Statement.{statement}

@@ -1,6 +1,6 @@
 -- `refusal` meets its contract, case by case.
 use mathlib.Core.Path.{sym, ap}
-use Rattle.portion.specs.Answers.{answerSaid}
+use Rattle.refusals.specs.Answers.{answerSaid}
 use Rattle.chains.specs.Inside.{refusalOf}
 use borrow.Author.Needs.{needs}
 use Rattle.chains.proofs.pages.refusal.Statement.{statement}

@@ -4,9 +4,9 @@ use mathlib.Core.Path.{sym, ap, _∙_}
 use Prim.Native.Nat.{_-_}
 use native.Mathlib.Omega.{arith}
 use Rattle.linkfile.specs.Format.{feedCount}
-use Rattle.linkfile.specs.Verdict.{faultSaid, firstAmong}
+use Rattle.refusals.specs.Faults.{faultSaid, firstAmong}
 use Rattle.linkfile.specs.Checked.{feedFault}
-use Rattle.linkfile.proofs.Faults.{Looking, look-starts, look-on, look-stops, look-ends}
+use Rattle.refusals.proofs.Faults.{Looking, look-starts, look-on, look-stops, look-ends}
 use Rattle.linkfile.proofs.feeds.feeds_fault.Statement.{statement}
 use Rattle.linkfile.proofs.feeds.feeds_fault.Tie as tie
 

@@ -4,11 +4,11 @@ use mathlib.Core.Path.{_≡_, refl, sym, ap, _∙_}
 use Prim.Native.Nat.{_+_, _-_, _≤_}
 use native.Mathlib.Nat.{le-refl}
 use native.Mathlib.Omega.{arith}
-use Rattle.linkfile.specs.declared.Fault.the-variants.{Sound}
+use Rattle.refusals.specs.declared.Fault.the-variants.{Sound}
 use Rattle.linkfile.specs.Format.{personCount}
-use Rattle.linkfile.specs.Verdict.{faultSaid, firstAmong}
+use Rattle.refusals.specs.Faults.{faultSaid, firstAmong}
 use Rattle.linkfile.specs.Checked.{linkFault, ownedFault}
-use Rattle.linkfile.proofs.Faults.{Looking, look-starts, look-on, look-stops, look-ends}
+use Rattle.refusals.proofs.Faults.{Looking, look-starts, look-on, look-stops, look-ends}
 use Rattle.linkfile.proofs.Tabled.{rows-below, links-start}
 use Rattle.linkfile.proofs.links.links_fault.Statement.{statement}
 use Rattle.linkfile.proofs.links.links_fault.Tie as tie

@@ -1,7 +1,7 @@
 -- `person_fault` meets its contract: the ends decide before the person, and the person before the rest.
 use lib.Dec.{ltb}
 use borrow.Author.Tests.{lt-ltb, le-ltb}
-use Rattle.linkfile.specs.Verdict.{unless}
+use Rattle.refusals.specs.Faults.{unless}
 use Rattle.question.specs.Asked.{personFault, restFault}
 use Rattle.question.proofs.Refused.{ends-first}
 use borrow.Author.Needs.{needs}

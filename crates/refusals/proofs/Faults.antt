@@ -1,10 +1,11 @@
 -- The first fault of several looks: one look more, and what it means that there is none.
 use mathlib.Core.Path.{_≡_, refl, sym, _∙_}
+use mathlib.Core.Bool.{Bool, true, false}
 use Prim.Native.Nat.{ℕ, zero, suc, _+_, _-_, _<_, _≤_}
 use native.Mathlib.Numerals.{add-one}
 use native.Mathlib.Decide.{ℕ-discrete}
 use native.Mathlib.Omega.{arith}
-use Rattle.linkfile.specs.Verdict.{Fault, sound, fault, firstOf, firstAmong}
+use Rattle.refusals.specs.Faults.{Fault, sound, fault, unless, firstOf, firstAmong}
 
 -- what is still to be looked at, from `at` up to `end`, decides the whole
 pub record Looking (look : ℕ → Fault) (whole : Fault) (at end : ℕ) : Type 0 where
@@ -31,6 +32,11 @@ module _ {look : ℕ → Fault} {whole : Fault} {at end : ℕ} (l : Looking look
   pub look-ends : end ≤ at → sound ≡ whole
   unfolding firstAmong
   look-ends h = let e : end - at ≡ 0 = omega arith in sym (rw e at (l .rest))
+
+-- no fault behind a rule is no fault of the rule, and none after it
+pub unless-none : (rule : Bool) (number place : ℕ) {after : Fault} → unless rule number place after ≡ sound → (rule ≡ true) × (after ≡ sound)
+unless-none true number place e = (refl, e)
+unless-none false number place e = let z : _≡_ {A = ℕ} 0 1 = cc in absurd (omega arith)
 
 -- no fault in the first of two looks that finds one is none in either
 pub first-both : (a b : Fault) → firstOf a b ≡ sound → (a ≡ sound) × (b ≡ sound)
