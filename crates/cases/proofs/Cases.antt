@@ -18,7 +18,7 @@ use Rattle.ways.specs.Records.{recordOf, chainOf, cellsOf, written, sameCells, 
 use Rattle.ways.specs.ByHops.{shorterFirst}
 use Rattle.ways.specs.Halves.{personsBelow, extends, halfChains}
 use Rattle.question.specs.Asked.{daysFit, restFault, questionFault, personFault}
-use Rattle.portion.specs.Listing.{portionFault}
+use Rattle.listing.specs.Portions.{refusalOf}
 use Rattle.question.specs.Admission.{dayAdmitted, admitted, numbersFrom, next}
 use Rattle.cases.specs.SixPersons.{six, Q}
 use Rattle.cases.specs.Cases.{AllHold, table, secondRecord}
@@ -52,7 +52,7 @@ every-case-holds =
 
 -- person 1, the second record for a bookmark, 50 working cells and 20 for the output
 pub six-goes-through : Passing six Q 1 secondRecord (replicate 50 0) (replicate 20 0)
-unfolding six flatMap number16 number32 marked countsFit laidOut classOf firstAmong archiveRises feedRuled feedFault rowStartsOrKeeps rowEnds rowRuled rowFault targetRises linkRuled linkFault ownedFault tablesFault fileFault daysFit restFault questionFault personFault dayAdmitted admitted numbersFrom next among keep by ways listing before after recordOf chainOf cellsOf written sameCells isRecordIn shorterFirst personsBelow extends halfChains portionFault
+unfolding six flatMap number16 number32 marked countsFit laidOut classOf firstAmong archiveRises feedRuled feedFault rowStartsOrKeeps rowEnds rowRuled rowFault targetRises linkRuled linkFault ownedFault tablesFault fileFault daysFit restFault questionFault personFault dayAdmitted admitted numbersFrom next among keep by ways listing before after recordOf chainOf cellsOf written sameCells isRecordIn shorterFirst personsBelow extends halfChains refusalOf
 six-goes-through =
     record {
       check = refl;

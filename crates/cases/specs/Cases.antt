@@ -10,7 +10,8 @@ use Rattle.ways.specs.Records.{written}
 use Rattle.ways.specs.Sizes.{recordSize}
 use Rattle.question.specs.declared.Question.{Question}
 use Rattle.question.specs.Asked.{askedFault}
-use Rattle.portion.specs.Listing.{listingFor, Start, fresh, bookmarked, startsAfter, startFault}
+use Rattle.portion.specs.Listing.{listingFor}
+use Rattle.listing.specs.Portions.{Start, fresh, bookmarked, startsAfter, startFault}
 use Rattle.join.specs.Lists.{halvesFor, halvesFault}
 use Rattle.cases.specs.SixPersons.{ask, Q}
 

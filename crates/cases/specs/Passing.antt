@@ -7,7 +7,8 @@ use Rattle.refusals.specs.Faults.{sound, firstOf}
 use Rattle.linkfile.specs.Checked.{fileFault}
 use Rattle.question.specs.declared.Question.{Question}
 use Rattle.question.specs.Asked.{personFault}
-use Rattle.portion.specs.Listing.{listingFor, bookmarked, portionFault}
+use Rattle.portion.specs.Listing.{listingFor, portionFault}
+use Rattle.listing.specs.Portions.{bookmarked}
 use Rattle.join.specs.Lists.{joinFault}
 
 -- each operation goes its whole way, past every refusal, so whatever its inner functions ask of their callers is asked of this too

@@ -9,7 +9,7 @@ use lib.ListN.{length, take, drop, length-drop}
 use lib.Seq.{take-all}
 use Rattle.ways.specs.Sizes.{recordSize}
 use Rattle.question.specs.declared.Question.{Question}
-use Rattle.portion.specs.Listing.{startSaid}
+use Rattle.listing.specs.Portions.{startSaid}
 use Rattle.refusals.specs.Answers.{listed, answerSaid}
 use Rattle.refusals.specs.declared.Answer as answer
 use Rattle.text.specs.Decimal.{worth, Digits}
@@ -20,7 +20,7 @@ use Rattle.chains.specs.Inside.{LookedAhead, refusalOf}
 use Rattle.chains.specs.declared.pages.Left as code
 use Rattle.chains.specs.declared.pages.Progress.{Progress}
 use Rattle.chains.proofs.Heard.{asks-what, refused-what}
-use Rattle.portion.proofs.Known.{fresh-all}
+use Rattle.portion.proofs.Instance.{fresh-chains}
 use Rattle.chains.proofs.Going.{way-starts}
 
 -- the file is what stands behind the question
@@ -31,7 +31,7 @@ file-part input = take-all (length input - questionSize) (drop questionSize inpu
 pub begins : {progress : Progress} {counted : List ℕ} → progress .left ≡ code.the-variants.Portion 0 → progress .counted ≡ counted → Digits counted → worth counted ≡ 0 → length (progress .bookmark) ≡ recordSize → Begins progress
 begins {progress} {counted} l c d w b = record {
   ready = λ input cells h. rw (l, c) (way-starts d w h b);
-  all = λ input cells. rw (l, c, w, fresh-all (drop questionSize input) (questionIn input));
+  all = λ input cells. rw (l, c, w, fresh-chains (drop questionSize input) (questionIn input));
 }
 
 -- ---- no portion comes next

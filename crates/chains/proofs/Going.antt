@@ -15,13 +15,14 @@ use Rattle.ways.specs.Sizes.{recordSize}
 use Rattle.ways.proofs.Portions.{after-portion}
 use Rattle.question.specs.declared.Question.{Question}
 use Rattle.question.specs.Asked.{askedFault}
-use Rattle.portion.specs.Listing.{listingFor, Start, bookmarked, startSaid, startsAfter, portionFault, portionFor, endedFor}
-use Rattle.portion.specs.Answers.{Portioned}
+use Rattle.portion.specs.Listing.{listingFor, portionFault, portionFor, endedFor, Portioned}
+use Rattle.listing.specs.Portions.{Listing, Start, bookmarked, startSaid, startsAfter, refusalOf}
 use Rattle.refusals.specs.Answers.{Answer, listed, refused, answerSaid, answerFor}
-use Rattle.portion.specs.EndToEnd.{lastRecord}
+use Rattle.listing.specs.EndToEnd.{lastRecord}
 use Rattle.refusals.specs.declared.Answer as code
-use Rattle.portion.proofs.Known.{portion-in, fresh-all, rises, Kept, last-kept}
-use Rattle.portion.proofs.Telling.{listed-asked, listed-fits, listed-count, listed-ended, listed-cells, listed-length}
+use Rattle.portion.proofs.Instance.{fresh-chains, chains-listing}
+use Rattle.listing.proofs.Known.{Kept, portion-in, last-kept}
+use Rattle.listing.proofs.Telling.{listed-first, listed-fits, listed-count, listed-ended, listed-cells, listed-length}
 use Rattle.text.specs.Decimal.{worth, Digits}
 use Rattle.text.specs.Lines.{chainLines, chainsAt, endLine, refusalLine, Records}
 use Rattle.text.proofs.Lining.{lines-append}
@@ -46,7 +47,7 @@ same-count {cells} e r = subst (λ (count : ℕ). Records cells count) (count-sa
 module _ {file : List ℕ} {q : Question} {start : Start} {bookmark counted cells : List ℕ} (k : OnTheWay file q start bookmark counted cells) where
   -- on the way a portion is refused only for the file or the question
   way-fault : portionFault file q start cells ≡ firstOf (askedFault file q) sound
-  unfolding portionFault
+  unfolding refusalOf
   way-fault = rw (le-leb recordSize (length cells) (k .room), k .passing)
 
   module _ {cells′ : List ℕ} {answer : code.Answer} (p : Portioned file q start cells cells′ answer) where
@@ -68,7 +69,10 @@ module _ {file : List ℕ} {q : Question} {start : Start} {bookmark counted cell
       said = ap answerSaid is
 
       way-asked : askedFault file q ≡ sound
-      way-asked = listed-asked p said
+      way-asked = listed-first p said
+
+      way-listing : Listing (listingFor file q)
+      way-listing = chains-listing file q way-asked
 
       pub way-many : count ≡ length (portionFor file q start cells)
       way-many = listed-count p said
@@ -78,10 +82,10 @@ module _ {file : List ℕ} {q : Question} {start : Start} {bookmark counted cell
       way-cells = listed-cells p said
 
       pub way-records : Records cells′ count
-      way-records = rw (way-many, way-cells) (records-written (portionFor file q start cells) (drop (length (portionFor file q start cells) * recordSize) cells) (listed-fits p said))
+      way-records = rw (way-many, way-cells) (records-written (portionFor file q start cells) (drop (length (portionFor file q start cells) * recordSize) cells) (listed-fits p said way-listing))
 
       way-chains : chainsAt cells′ 0 count ≡ portionFor file q start cells
-      way-chains = rw (way-many, way-cells) (chains-written (portionFor file q start cells) (drop (length (portionFor file q start cells) * recordSize) cells) (listed-fits p said))
+      way-chains = rw (way-many, way-cells) (chains-written (portionFor file q start cells) (drop (length (portionFor file q start cells) * recordSize) cells) (listed-fits p said way-listing))
 
       -- forty digits are enough
       pub way-counts : Digits counted × (worth counted + count < 10 ^ 40)
@@ -98,7 +102,7 @@ module _ {file : List ℕ} {q : Question} {start : Start} {bookmark counted cell
 
       -- there is a last one
       pub way-last : ended ≡ false → (1 ≤ count) × (count * recordSize ≤ length cells′)
-      way-last e = (omega (arith, way-many, way-full e, k .room), omega (arith, way-many, way-full e, listed-length p said))
+      way-last e = (omega (arith, way-many, way-full e, k .room), omega (arith, way-many, way-full e, listed-length p said way-listing))
 
       module _ {counted′ : List ℕ} (d : Digits counted′) (w : worth counted′ ≡ worth counted + count) where
         -- the last portion
@@ -124,9 +128,9 @@ module _ {file : List ℕ} {q : Question} {start : Start} {bookmark counted cell
             let L = listingFor file q in
             let more = way-more e in
             let full = way-full e in
-            let on : Kept file q way-asked bookmark′ (lastOr (startsAfter start) P) = subst (λ (m : List ℕ). Kept file q way-asked m (lastOr (startsAfter start) P)) (sym (b ∙ rw (way-many, way-cells)))
-            (last-kept file q way-asked (startsAfter start) P (drop (length P * recordSize) cells) (omega (arith, full, k .room)) (λ c m. portion-in file q start cells m)) in
-            let left : rest file q (bookmarked bookmark′) ≡ drop room R = ap (λ (c : List ℕ). after c L) (on .mark) ∙ after-portion L (rises file q way-asked) (startsAfter start) room in
+            let on : Kept L bookmark′ (lastOr (startsAfter start) P) = subst (λ (m : List ℕ). Kept L m (lastOr (startsAfter start) P)) (sym (b ∙ rw (way-many, way-cells)))
+            (last-kept way-listing (startsAfter start) P (drop (length P * recordSize) cells) (omega (arith, full, k .room)) (λ c m. portion-in L start cells m)) in
+            let left : rest file q (bookmarked bookmark′) ≡ drop room R = ap (λ (c : List ℕ). after c L) (on .mark) ∙ after-portion L (way-listing .rises) (startsAfter start) room in
             let short = length-drop room R in
             let same : worth counted′ + length (drop room R) ≡ worth counted + length R = omega (arith, w, way-many, full, short) in
             let parts : chainLines R ≡ chainLines P ++ chainLines (drop room R) = ap chainLines (sym (take-append-drop room R)) ∙ lines-append P (drop room R) in
@@ -135,7 +139,7 @@ module _ {file : List ℕ} {q : Question} {start : Start} {bookmark counted cell
               lists = λ x. same-count x way-records;
               ends = λ x. absurd (true≢false (sym (ended-same x) ∙ e));
               goes = λ x. (
-                record { digits = d; room = omega (arith, listed-length p said, k .room); whole = on .whole; passing = on .passing; sum = rw left (same ∙ k .sum) },
+                record { digits = d; room = omega (arith, listed-length p said way-listing, k .room); whole = on .whole; passing = on .passing; sum = rw left (same ∙ k .sum) },
                 rw (← count-same x, way-asked, way-chains, left, same) (ap (λ (t : List ℕ). t ++ endLine (worth counted + length R)) parts ∙ append-assoc (chainLines P) (chainLines (drop room R)) (endLine (worth counted + length R))),
                 omega (arith, count-same x, way-last e .0),
               );
@@ -143,4 +147,4 @@ module _ {file : List ℕ} {q : Question} {start : Start} {bookmark counted cell
 
 -- ---- the start: everything is to come
 pub way-starts : {file : List ℕ} {q : Question} {bookmark counted cells : List ℕ} → Digits counted → worth counted ≡ 0 → recordSize ≤ length cells → length bookmark ≡ recordSize → OnTheWay file q (startSaid 0 bookmark) bookmark counted cells
-way-starts {file} {q} d w h l = record { digits = d; room = h; whole = l; passing = refl; sum = omega (arith, w, ap length (fresh-all file q)) }
+way-starts {file} {q} d w h l = record { digits = d; room = h; whole = l; passing = refl; sum = omega (arith, w, ap length (fresh-chains file q)) }

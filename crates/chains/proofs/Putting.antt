@@ -10,7 +10,7 @@ use lib.ListN.{length, take, length-append}
 use lib.Seq.{length-take-le}
 use native.Mathlib.Nat.{add-zero, zero-add, suc-add}
 use Rattle.ways.specs.Chain.{hops}
-use Rattle.portion.specs.Listing.{bookmarked}
+use Rattle.listing.specs.Portions.{bookmarked}
 use Rattle.text.specs.Decimal.{decimal, worth}
 use Rattle.text.specs.Lines.{spaced, chainAt, chainLine, chainLines, chainsAt, endLine, refusalLine}
 use Rattle.text.specs.Printed.{Printed, Paged, longestLine}

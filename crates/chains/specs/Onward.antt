@@ -9,7 +9,8 @@ use Rattle.ways.specs.Portions.{after}
 use Rattle.ways.specs.Sizes.{recordSize}
 use Rattle.question.specs.declared.Question.{Question}
 use Rattle.question.specs.Asked.{askedFault}
-use Rattle.portion.specs.Listing.{listingFor, Start, bookmarked, startsAfter, startFault}
+use Rattle.portion.specs.Listing.{listingFor}
+use Rattle.listing.specs.Portions.{Start, bookmarked, startsAfter, startFault}
 use Rattle.refusals.specs.Answers.{Answer, listed, refused}
 use Rattle.text.specs.Decimal.{worth, Digits}
 use Rattle.text.specs.Lines.{chainLines, chainsAt, endLine, refusalLine, Records}

@@ -6,7 +6,7 @@ use Prim.Native.Nat.{ℕ, _-_, _≤_, _<_}
 use lib.ListN.{length, take, drop}
 use lib.Dec.{ltb}
 use Rattle.ways.specs.Sizes.{recordSize}
-use Rattle.portion.specs.Listing.{Start, bookmarked, startSaid}
+use Rattle.listing.specs.Portions.{Start, bookmarked, startSaid}
 use Rattle.text.specs.Decimal.{worth, Digits}
 use Rattle.text.specs.Lines.{chainLines, chainsAt, endLine, refusalLine, Records}
 use Rattle.chains.specs.Program.{questionSize, questionIn, printed}

@@ -8,9 +8,9 @@ ghost use mathlib.Core.Path.{_≡_};
 ghost use Prim.Native.Nat.{_*_, _≤_};
 ghost use lib.ListN.{length};
 ghost use Rattle.ways.specs.Sizes.{recordSize};
-ghost use Rattle.portion.specs.Listing.{startSaid};
+ghost use Rattle.listing.specs.Portions.{startSaid};
 ghost use Rattle.refusals.specs.Answers.{answerSaid};
-ghost use Rattle.portion.specs.EndToEnd.{lastRecord};
+ghost use Rattle.listing.specs.EndToEnd.{lastRecord};
 ghost use Rattle.text.specs.Decimal.{worth};
 ghost use Rattle.chains.specs.Onward.{OnTheWay, WentOn};
 

@@ -25,17 +25,17 @@ use Rattle.ways.proofs.Portions.{lastOr-in}
 use Rattle.ways.proofs.Fewest.{fewest-cap}
 use Rattle.question.specs.declared.Question.{Question}
 use Rattle.question.specs.Admission.{next}
-use Rattle.question.specs.Asked.{personFault}
+use Rattle.question.specs.Asked.{personFault, askedFault}
 use Rattle.question.proofs.Numbered.{person-numbered}
 use Rattle.question.proofs.Refused.{person-proper}
 use Rattle.distance.specs.Answers as distance
-use Rattle.portion.specs.Listing.{Start, portionFault, portionFor, endedFor}
-use Rattle.portion.specs.Answers.{Portioned}
+use Rattle.portion.specs.Listing.{listingFor, portionFault, portionFor, endedFor, Portioned}
+use Rattle.listing.specs.Portions.{Start}
 use Rattle.refusals.specs.Answers.{Answer, listed, refused, answerSaid, answerFor}
 use Rattle.refusals.specs.declared.Answer as code
-use Rattle.portion.proofs.Numbered.{portion-numbered}
-use Rattle.portion.proofs.Known.{portion-in, kept}
-use Rattle.portion.proofs.Telling.{sound-asked}
+use Rattle.portion.proofs.Instance.{portion-numbered, chains-listing}
+use Rattle.listing.proofs.Known.{portion-in, kept}
+use Rattle.listing.proofs.Telling.{sound-first}
 use Rattle.held.specs.declared.Held.{Held}
 use Rattle.held.specs.Holding.{startOf, MovedOn}
 use Rattle.join.specs.Lists.{chainsFor, joinFault, firstOnes, allFit}
@@ -120,15 +120,15 @@ listing-tells first last count ended {said} {answer} few numbered is small told 
     (omega (arith, number, fits, ended-few ended), rw number (listed-apart count ended fits)))
     (λ number place e. (told ∙ rw (is, e), unchanged number place e))
 
-portion-tells : {file : List ℕ} {q : Question} {start : Start} {out out′ : List ℕ} {answer : code.Answer} {number : ℕ} {Unchanged : Type 0} → Portioned file q start out out′ answer → Small (answerSaid answer) → number ≡ listedNumber (answerSaid answer)
+portion-tells : (file : List ℕ) (q : Question) {start : Start} {out out′ : List ℕ} {answer : code.Answer} {number : ℕ} {Unchanged : Type 0} → Portioned file q start out out′ answer → Small (answerSaid answer) → number ≡ listedNumber (answerSaid answer)
     → ((r place : ℕ) → portionFault file q start out ≡ fault r place → Unchanged)
     → Tells (portionFault file q start out) 1 17 number Unchanged (Listed number (length (portionFor file q start out)) (endedFor file q start out))
-portion-tells {file} {q} {start} {out} p small told unchanged =
+portion-tells file q {start} {out} p small told unchanged =
     listing-tells (portionFault file q start out) 17 (length (portionFor file q start out)) (endedFor file q start out) (omega arith) (portion-numbered file q start out) (p .answers) small told unchanged
 
 kin-portion : {file : List ℕ} {q : Question} {start : Start} {out out′ : List ℕ} {answer : ℕ} → PortionNumber file q start out out′ answer
     → Tells (portionFault file q start out) 1 17 answer (out′ ≡ out) (Listed answer (length (portionFor file q start out)) (endedFor file q start out))
-kin-portion p = portion-tells (p .portioned) (p .small) (p .answers) (λ number place e. p .portioned .cells ∙ rw e)
+kin-portion {file} {q} p = portion-tells file q (p .portioned) (p .small) (p .answers) (λ number place e. p .portioned .cells ∙ rw e)
 
 kin-join : {file : List ℕ} {q : Question} {working working′ out out′ : List ℕ} {answer : ℕ} → JoinNumber file q working working′ out out′ answer
     → Tells (joinFault file q working out) 1 18 answer ((working′ ≡ working) × (out′ ≡ out)) (Listed answer (length (firstOnes (chainsFor file q) out)) (allFit (chainsFor file q) out))
@@ -147,7 +147,7 @@ module _ {file cells cells′ out out′ : List ℕ} {answer : ℕ} (whole : len
 
   moved-tells : Tells (portionFault file (heldOf cells .question) (startOf (heldOf cells)) out) 1 17 answer ((cells′ ≡ cells) × (out′ ≡ out))
       (Listed answer (length (portionFor file (heldOf cells .question) (startOf (heldOf cells)) out)) (endedFor file (heldOf cells .question) (startOf (heldOf cells)) out))
-  moved-tells = portion-tells (m .moves .portioned) (m .small) (m .answers) refused-stays
+  moved-tells = portion-tells file (heldOf cells .question) (m .moves .portioned) (m .small) (m .answers) refused-stays
 
   -- a portion of no chains leaves them too
   none-stays : countIn answer ≡ 0 → (cells′ ≡ cells) × (out′ ≡ out)
@@ -167,8 +167,8 @@ module _ {file cells cells′ out out′ : List ℕ} {answer : ℕ} (whole : len
       let q = heldOf cells .question in
       let start = startOf (heldOf cells) in
       let last = recordOf recordSize (lastOr c P) in
-      let inside = portion-in file q start out (subst (λ (l : List (List ℕ)). lastOr c P ∈ l) (sym i) (lastOr-in c P)) in
-      let ten = kept file q (sound-asked file q start out e .0) (lastOr c P) inside .whole in
+      let inside = portion-in (listingFor file q) start out (subst (λ (l : List (List ℕ)). lastOr c P ∈ l) (sym i) (lastOr-in c P)) in
+      let ten = kept (chains-listing file q (sound-first (askedFault file q) (listingFor file q) start out e .0)) (lastOr c P) inside .whole in
       let moved : m .held ≡ movedTo cells last = m .moves .keeps ∙ rw (e, i) in
       ap heldOf (m .keeps ∙ ap (heldCells cells) moved) ∙ held-back cells last whole ten ∙ sym moved
 

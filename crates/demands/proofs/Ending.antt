@@ -23,11 +23,11 @@ use Rattle.question.specs.Asked.{personFault}
 use Rattle.question.proofs.Numbered.{person-numbered}
 use Rattle.distance.specs.Answers as distance
 use Rattle.distance.specs.declared.Answer as hops
-use Rattle.portion.specs.Listing.{Start, portionFault, portionFor, endedFor}
-use Rattle.portion.specs.Answers.{Portioned}
+use Rattle.portion.specs.Listing.{portionFault, portionFor, endedFor, Portioned}
+use Rattle.listing.specs.Portions.{Start}
 use Rattle.refusals.specs.Answers.{refused, answerSaid, answerFor}
 use Rattle.refusals.specs.declared.Answer.{Answer}
-use Rattle.portion.proofs.Numbered.{portion-numbered}
+use Rattle.portion.proofs.Instance.{portion-numbered}
 use Rattle.held.specs.Holding.{startOf}
 use Rattle.join.specs.Lists.{chainsFor, joinFault, firstOnes, allFit}
 use Rattle.join.specs.Answers.{Joins}
@@ -78,9 +78,9 @@ listing-ends : (first : Fault) (last count : ℕ) (ended : Bool) (answer : Answe
 listing-ends first last count ended answer numbered is =
     ends-by refused (λ f. answerFor f count ended) (λ number place. refl) (λ number place e. let z : _≡_ {A = ℕ} 0 1 = cc in omega arith) first last numbered is
 
-portion-ends : {file : List ℕ} {q : Question} {start : Start} {out out′ : List ℕ} {answer : Answer} → Portioned file q start out out′ answer
+portion-ends : (file : List ℕ) (q : Question) {start : Start} {out out′ : List ℕ} {answer : Answer} → Portioned file q start out out′ answer
     → Ends refused (portionFault file q start out) 17 (answerSaid answer)
-portion-ends {file} {q} {start} {out} {answer = answer} p =
+portion-ends file q {start} {out} {answer = answer} p =
     listing-ends (portionFault file q start out) 17 (length (portionFor file q start out)) (endedFor file q start out) answer (portion-numbered file q start out) (p .answers)
 
 join-ends : {file : List ℕ} {q : Question} {working working′ out out′ : List ℕ} {answer : Answer} → Joins file q working working′ out out′ answer
@@ -89,7 +89,7 @@ join-ends {file} {q} {working} {out = out} {answer = answer} j =
     listing-ends (joinFault file q working out) 18 (length (firstOnes (chainsFor file q) out)) (allFit (chainsFor file q) out) answer (join-numbered file q working out) (j .answers)
 
 pub every-ends : EveryEnds
-every-ends = record { check = check-ends; row = row-ends; fewest = fewest-ends; portion = portion-ends; held = λ m. portion-ends (m .portioned); join = join-ends }
+every-ends = record { check = check-ends; row = row-ends; fewest = fewest-ends; portion = portion-ends; held = λ {file} {held} m. portion-ends file (held .question) (m .portioned); join = join-ends }
 
 -- where an operation answered a refusal, there was a fault
 first-fault : {A : Type 0} {refused : ℕ → ℕ → A} (first : Fault) {last number place : ℕ} {answer : A} → Ends refused first last answer → answer ≡ refused number place → (n : ℕ) × (p : ℕ) × (first ≡ fault n p)
@@ -99,7 +99,7 @@ first-fault (fault n p) ends said = (n, p, refl)
 pub refusal-leaves : RefusalLeaves
 refusal-leaves =
     record {
-      portion = λ {file} {q} {start} {out} p said. let f = first-fault (portionFault file q start out) (portion-ends p) said in p .cells ∙ rw (f .2);
-      held = λ {file} {held} {held′} {out} m said. let f = first-fault (portionFault file (held .question) (startOf held) out) (portion-ends (m .portioned)) said in (m .keeps ∙ rw (f .2), m .portioned .cells ∙ rw (f .2));
+      portion = λ file q {start} {out} p said. let f = first-fault (portionFault file q start out) (portion-ends file q p) said in p .cells ∙ rw (f .2);
+      held = λ {file} {held} {held′} {out} m said. let f = first-fault (portionFault file (held .question) (startOf held) out) (portion-ends file (held .question) (m .portioned)) said in (m .keeps ∙ rw (f .2), m .portioned .cells ∙ rw (f .2));
       join = λ {file} {q} {working} {working′} {out} j said. let f = first-fault (joinFault file q working out) (join-ends j) said in (j .shelf ∙ rw (f .2), j .cells ∙ rw (f .2));
     }

@@ -11,9 +11,11 @@ use Rattle.ways.specs.Records.{cellsOf}
 use Rattle.ways.specs.Sizes.{recordSize}
 use Rattle.question.specs.declared.Question.{Question}
 use Rattle.question.specs.Asked.{askedFault}
-use Rattle.portion.specs.Listing.{listingFor, bookmarked, startFault}
-use Rattle.portion.specs.EndToEnd.{Call, roomIn, allWrote, allRoom, EndsRight, Laid, LaidEndToEnd, Resumed}
-use Rattle.portion.proofs.LaidEnd.{laid-end-to-end, laid-behind}
+use Rattle.listing.specs.Portions.{bookmarked, startFault}
+use Rattle.listing.specs.EndToEnd.{Call, roomIn, allWrote, allRoom, EndsRight, Laid}
+use Rattle.portion.specs.Listing.{listingFor, LaidEndToEnd, Resumed}
+use Rattle.portion.proofs.Instance.{chains-listing}
+use Rattle.listing.proofs.LaidEnd.{laid-fresh, laid-behind}
 use Rattle.held.proofs.Onward.{held-end-to-end, held-resumed, held-ended}
 use Rattle.demands.specs.Demands.{SomeEnded, DemandThree}
 
@@ -32,11 +34,12 @@ laid-whole {left} {calls} laid some = laid .cells ∙ ap (cellsOf recordSize) (t
 
 pub demand-three : (file : List ℕ) (q : Question) → askedFault file q ≡ sound → DemandThree file q
 demand-three file q asked =
+    let is = chains-listing file q asked in
     record {
-      laidEndToEnd = λ run. laid-end-to-end file q asked run .cells;
-      bringsAndEnds = λ run. let laid = laid-end-to-end file q asked run in (laid .brings, laid .ends);
-      whole = λ run. laid-whole (laid-end-to-end file q asked run);
-      resumed = λ bookmark passing run. laid-behind file q asked bookmark passing run;
+      laidEndToEnd = λ run. laid-fresh asked is run .cells;
+      bringsAndEnds = λ run. let laid = laid-fresh asked is run in (laid .brings, laid .ends);
+      whole = λ run. laid-whole (laid-fresh asked is run);
+      resumed = λ bookmark passing run. laid-behind asked is bookmark passing run;
       held = λ {held} {held′} {calls} same unstarted run. subst (λ (x : Question). LaidEndToEnd file x calls) same (held-end-to-end (ap (askedFault file) same ∙ asked) unstarted run);
       heldResumed = λ {held} {held′} {calls} same started passing run.
           subst (λ (x : Question). Resumed file x (held .«record») calls) same

@@ -14,13 +14,14 @@ use Rattle.question.specs.declared.Question.{Question}
 use Rattle.distance.specs.Answers as distance
 use Rattle.distance.specs.declared.Answer as distance-code
 use Rattle.distance.proofs.OneResult.{fewest-one}
-use Rattle.portion.specs.Listing.{Start, portionFault, portionFor, endedFor}
-use Rattle.portion.specs.Answers.{cellsFor, Portioned}
-use Rattle.refusals.specs.Answers.{Answer, listed, refused, answerSaid, answerFor}
+use Rattle.portion.specs.Listing.{portionFault, portionFor, endedFor, Portioned}
+use Rattle.listing.specs.Portions.{Start}
+use Rattle.refusals.specs.Faults.{lent}
+use Rattle.refusals.specs.Answers.{Answer, listed, refused, answerSaid, answerFor, cellsFor}
 use Rattle.refusals.specs.declared.Answer as code
-use Rattle.portion.proofs.OneResult.{portion-one}
+use Rattle.listing.proofs.OneResult.{portion-one}
 use Rattle.held.specs.declared.Held.{Held}
-use Rattle.held.specs.Holding.{startOf, heldFor, MovedOn}
+use Rattle.held.specs.Holding.{startOf, heldAfter, MovedOn}
 use Rattle.held.proofs.OneResult.{held-one}
 use Rattle.join.specs.Lists.{halvesFor, chainsFor, joinFault, firstOnes, allFit}
 use Rattle.join.specs.Answers.{Joins}
@@ -66,7 +67,7 @@ portion-just file q start out =
 held-just : (file : List ℕ) (held : Held) (out : List ℕ) → JustOne {R = code.Answer × Held × List ℕ} (λ r. MovedOn file held (r .1) out (r .2) (r .0))
 held-just file held out =
     let p = portion-just file (held .question) (startOf held) out .some in
-    let h = heldFor (portionFault file (held .question) (startOf held) out) (portionFor file (held .question) (startOf held) out) held in
+    let h = lent (portionFault file (held .question) (startOf held) out) (heldAfter (portionFor file (held .question) (startOf held) out) held) held in
     record {
       some = ((p .0 .0, h, p .0 .1), record { portioned = p .1; keeps = refl });
       only = λ one other m n. let e = held-one m n in same-three (e .0) (e .1) (e .2);

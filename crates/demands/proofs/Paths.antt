@@ -19,11 +19,12 @@ use Rattle.question.specs.declared.Question.{Question}
 use Rattle.question.specs.Asked.{askedFault}
 use Rattle.question.specs.Admission.{next}
 use Rattle.question.proofs.Leads.{next-led, led-next}
-use Rattle.portion.specs.Listing.{listingFor, fresh}
-use Rattle.portion.specs.Answers.{Portioned}
+use Rattle.portion.specs.Listing.{listingFor, Portioned}
+use Rattle.listing.specs.Portions.{fresh}
 use Rattle.refusals.specs.declared.Answer.{Answer}
 use Rattle.portion.proofs.Starting.{asked-proper}
-use Rattle.portion.proofs.Known.{rows, rises, fresh-all, passes}
+use Rattle.portion.proofs.Instance.{rows, fresh-chains, chains-listing}
+use Rattle.listing.proofs.Known.{passes}
 use Rattle.join.specs.Lists.{halvesFor, joinFault}
 use Rattle.demands.specs.Paths.{Reached, SimplePath, HalfPath}
 use Rattle.demands.specs.Demands.{Lists, Fitting, JoinRoute, DemandTwo}
@@ -72,8 +73,8 @@ module _ (file : List ℕ) (q : Question) where
 
     portion-lists : {out out′ : List ℕ} {answer : Answer} → recordSize ≤ length out → Portioned file q fresh out out′ answer → Lists (listingFor file q) out out′ answer
     portion-lists {out} h p =
-        let passing = passes file q asked fresh out refl h in
-        record { says = p .answers ∙ rw (passing, fresh-all file q); cells = p .cells ∙ rw (passing, fresh-all file q) }
+        let passing = passes (listingFor file q) asked fresh out refl h in
+        record { says = p .answers ∙ rw (passing, fresh-chains file q); cells = p .cells ∙ rw (passing, fresh-chains file q) }
 
     joins-on : {working out : List ℕ} → Fitting file q working out → joinFault file q working out ≡ sound
     joins-on {working} {out} fit = rw (asked, le-leb recordSize (length out) (fit .room)) (fit .shelf)
@@ -109,7 +110,7 @@ module _ (file : List ℕ) (q : Question) where
     demand-two =
         record {
           holdsEvery = λ c s. is-chain c .1 (path-chain c s);
-          onceInOrder = (once-each (next file q) (rows file q asked) (q .from) (q .to) (q .hops), rises file q asked, λ c m. chain-path c (is-chain c .0 m));
+          onceInOrder = (once-each (next file q) (rows file q asked) (q .from) (q .to) (q .hops), chains-listing file q asked .rises, λ c m. chain-path c (is-chain c .0 m));
           joinRoute = join-route;
           noOther = λ L r same. determined (next file q) (rows file q asked) (q .from) (q .to) (q .hops) differ L r (λ c. (λ m. path-chain c (same c .0 m), λ h. same c .1 (chain-path c h)));
           portion = portion-lists;

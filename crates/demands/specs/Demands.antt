@@ -24,14 +24,15 @@ use Rattle.question.specs.declared.Question.{Question}
 use Rattle.question.specs.Asked.{personFault}
 use Rattle.distance.specs.Answers as distance
 use Rattle.distance.specs.declared.Answer as hops
-use Rattle.portion.specs.Listing.{listingFor, Start, fresh, bookmarked, startFault, portionFault}
-use Rattle.portion.specs.Answers.{Portioned}
+use Rattle.portion.specs.Listing.{listingFor, portionFault, Portioned, Run, LaidEndToEnd, Resumed}
+use Rattle.listing.specs.Portions.{Start, fresh, bookmarked, startFault}
 use Rattle.refusals.specs.Answers.{listed, refused, answerSaid}
-use Rattle.portion.specs.EndToEnd.{Call, Run, saysEnded, allWrote, allRoom, Brings, EndsRight, Laid, LaidEndToEnd, Resumed}
+use Rattle.listing.specs.EndToEnd.{Call, saysEnded, allWrote, allRoom, Brings, EndsRight, Laid}
 use Rattle.refusals.specs.declared.Answer.{Answer}
 use Rattle.held.specs.declared.Held.{Held}
 use Rattle.held.specs.Holding.{startOf, MovedOn}
-use Rattle.held.specs.Calls.{Run as HeldRun, Quiet}
+use Rattle.listing.specs.Onward.{Quiet}
+use Rattle.held.specs.Calls.{Run as HeldRun}
 use Rattle.join.specs.Lists.{halvesFor, chainsFor, halvesFault, joinFault, firstOnes, allFit}
 use Rattle.join.specs.Answers.{Joins}
 use Rattle.demands.specs.OneResult.{OneResult}
@@ -50,7 +51,7 @@ pub record EveryEnds : Type 0 where
   pub row : (file view : RefT (List ℕ)) (person : ℕ) → Views file person view → (fileFault (now file) ≢ sound) ⊎ (personCount (now file) ≤ person) → now view ≡ []
   pub fewest : (file : List ℕ) (q : Question) (person : ℕ) (answer : hops.Answer) → distance.FewestHops file q person answer
       → Ends distance.refused (firstOf (fileFault file) (personFault (personCount file) q person)) 15 (distance.answerSaid answer)
-  pub portion : {file : List ℕ} {q : Question} {start : Start} {out out′ : List ℕ} {answer : Answer} → Portioned file q start out out′ answer
+  pub portion : (file : List ℕ) (q : Question) {start : Start} {out out′ : List ℕ} {answer : Answer} → Portioned file q start out out′ answer
       → Ends refused (portionFault file q start out) 17 (answerSaid answer)
   pub held : {file : List ℕ} {held held′ : Held} {out out′ : List ℕ} {answer : Answer} → MovedOn file held held′ out out′ answer
       → Ends refused (portionFault file (held .question) (startOf held) out) 17 (answerSaid answer)
@@ -60,7 +61,7 @@ pub record EveryEnds : Type 0 where
 -- the operations that are lent cells for writing. The file and a bookmark are lent for reading only (`&`): the language lets nobody
 -- write through such a loan, so no promise has to say that they stay
 pub record RefusalLeaves : Type 0 where
-  pub portion : {file : List ℕ} {q : Question} {start : Start} {out out′ : List ℕ} {answer : Answer} {number place : ℕ} → Portioned file q start out out′ answer
+  pub portion : (file : List ℕ) (q : Question) {start : Start} {out out′ : List ℕ} {answer : Answer} {number place : ℕ} → Portioned file q start out out′ answer
       → answerSaid answer ≡ refused number place → out′ ≡ out
   pub held : {file : List ℕ} {held held′ : Held} {out out′ : List ℕ} {answer : Answer} {number place : ℕ} → MovedOn file held held′ out out′ answer
       → answerSaid answer ≡ refused number place → (held′ ≡ held) × (out′ ≡ out)

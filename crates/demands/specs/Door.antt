@@ -13,7 +13,8 @@ use Rattle.refusals.specs.Faults.{Fault, sound, fault, unless, firstOf}
 use Rattle.linkfile.specs.Checked.{fileFault}
 use Rattle.question.specs.declared.Question.{Question}
 use Rattle.question.specs.Asked.{personFault}
-use Rattle.portion.specs.Listing.{Start, portionFault, portionFor, endedFor}
+use Rattle.portion.specs.Listing.{portionFault, portionFor, endedFor}
+use Rattle.listing.specs.Portions.{Start}
 use Rattle.refusals.specs.Answers.{answerSaid}
 use Rattle.refusals.specs.declared.Answer as code
 use Rattle.held.specs.Holding.{startOf, MovedOn}

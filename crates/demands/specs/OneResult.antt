@@ -11,8 +11,8 @@ use Rattle.linkfile.specs.declared.Verdict.{Verdict}
 use Rattle.question.specs.declared.Question.{Question}
 use Rattle.distance.specs.Answers.{FewestHops}
 use Rattle.distance.specs.declared.Answer as distance
-use Rattle.portion.specs.Listing.{Start}
-use Rattle.portion.specs.Answers.{Portioned}
+use Rattle.listing.specs.Portions.{Start}
+use Rattle.portion.specs.Listing.{Portioned}
 use Rattle.refusals.specs.declared.Answer.{Answer}
 use Rattle.held.specs.declared.Held.{Held}
 use Rattle.held.specs.Holding.{MovedOn}

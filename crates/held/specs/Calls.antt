@@ -1,5 +1,5 @@
 -- Calls of one held listing, one after another, on one file. Definitions only.
--- What a call wrote, the rooms together, and demand 3 itself are the portion's (specs/EndToEnd).
+-- What a call wrote, the rooms together, and demand 3 itself are those of any listing (listing, specs/EndToEnd).
 use mathlib.Core.Path.{_≡_}
 use mathlib.Core.Bool.{true}
 use mathlib.Core.List.{List, [], _∷_}
@@ -7,7 +7,7 @@ use Prim.Native.Nat.{ℕ, _≤_}
 use lib.ListN.{length}
 use Rattle.ways.specs.Sizes.{recordSize}
 use Rattle.refusals.specs.Answers.{listed, refused, answerSaid}
-use Rattle.portion.specs.EndToEnd.{Call}
+use Rattle.listing.specs.EndToEnd.{Call}
 use Rattle.refusals.specs.declared.Answer as code
 use Rattle.held.specs.declared.Held.{Held}
 use Rattle.held.specs.Holding.{MovedOn}
@@ -20,8 +20,3 @@ pub data Run (file : List ℕ) : Held → List Call → Held → Type 0 where
       → Run file between calls held′ → Run file held (call ∷ calls) held′
   refusal : {held between held′ : Held} {out out′ : List ℕ} {answer : code.Answer} {number place : ℕ} {calls : List Call} → MovedOn file held between out out′ answer → answerSaid answer ≡ refused number place
       → Run file between calls held′ → Run file held calls held′
-
--- every call answers 0 chains and ended, and changes no cell
-abbrev pub Quiet : List Call → Type 0
-Quiet [] = Unit {0}
-Quiet (call ∷ calls) = (answerSaid (call .answer) ≡ listed 0 true) × (call .exit ≡ call .out) × Quiet calls

@@ -3,12 +3,12 @@
 use mathlib.Core.Path.{_≡_}
 use mathlib.Core.List.{List, [], _∷_}
 use Prim.Native.Nat.{ℕ}
-use Rattle.refusals.specs.Faults.{Fault, sound, fault}
+use Rattle.refusals.specs.Faults.{lent}
 use Rattle.ways.specs.Portions.{lastOr}
 use Rattle.ways.specs.Records.{recordOf}
 use Rattle.ways.specs.Sizes.{recordSize}
-use Rattle.portion.specs.Listing.{Start, startSaid, portionFault, portionFor}
-use Rattle.portion.specs.Answers.{Portioned}
+use Rattle.portion.specs.Listing.{portionFault, portionFor, Portioned}
+use Rattle.listing.specs.Portions.{Start, startSaid}
 use Rattle.refusals.specs.declared.Answer as code
 use Rattle.held.specs.declared.Held.{Held}
 
@@ -21,12 +21,8 @@ abbrev pub heldAfter : List (List ℕ) → Held → Held
 heldAfter [] held = held
 heldAfter (c ∷ chains) held = record { question = held .question; started = 1; «record» = recordOf recordSize (lastOr c chains) }
 
--- a refusal changes nothing in a held listing, also 17 for a started one with a bad record
-abbrev pub heldFor : Fault → List (List ℕ) → Held → Held
-heldFor sound chains held = heldAfter chains held
-heldFor (fault number place) chains held = held
-
--- held listing: the answer and the output are the portion's, and the held listing at exit
+-- held listing: the answer and the output are the portion's, and the held listing at exit. A refusal changes nothing in it, also 17 for
+-- a started one with a bad record
 pub record MovedOn (file : List ℕ) (held held′ : Held) (out out′ : List ℕ) (answer : code.Answer) : Type 0 where
   pub portioned : Portioned file (held .question) (startOf held) out out′ answer
-  pub keeps : held′ ≡ heldFor (portionFault file (held .question) (startOf held) out) (portionFor file (held .question) (startOf held) out) held
+  pub keeps : held′ ≡ lent (portionFault file (held .question) (startOf held) out) (heldAfter (portionFor file (held .question) (startOf held) out) held) held

@@ -17,8 +17,7 @@ use Rattle.ways.proofs.ByHops.{byHops-iff}
 use Rattle.question.specs.declared.Question.{Question}
 use Rattle.question.specs.Admission.{next}
 use Rattle.join.specs.Lists.{chainsFor, joinFault, firstOnes, allFit}
-use Rattle.portion.specs.Answers.{cellsFor}
-use Rattle.refusals.specs.Answers.{Answer, listed, answerFor}
+use Rattle.refusals.specs.Answers.{Answer, listed, answerFor, cellsFor}
 use Rattle.join.specs.Answers.{Joins}
 use Rattle.refusals.specs.declared.Answer as code
 use Rattle.refusals.proofs.Answers.{answer-said}

@@ -26,8 +26,9 @@ use Rattle.refusals.proofs.Faults.{first-both}
 use Rattle.question.specs.Filled.{Filled, Fillable}
 use Rattle.question.proofs.Refused.{asked-passed}
 use Rattle.question.proofs.Leads.{next-none}
-use Rattle.join.specs.Lists.{halvesFor, chainsFor, roomFault, halvesFault, joinFault}
+use Rattle.join.specs.Lists.{halvesFor, chainsFor, halvesFault, joinFault}
 use Rattle.join.specs.Answers.{Answered, Joins, Passed, halvesIn, JoinsIn}
+use Rattle.refusals.specs.Answers.{roomFault}
 use Rattle.refusals.specs.declared.Answer as code
 use Rattle.half_chains.proofs.Standing.{low-persons}
 
@@ -38,7 +39,7 @@ refused-first file q working out e = record { answers = rw e; shelf = rw e; cell
 module _ (file : List ℕ) (q : Question) {answer : look.Fault} (asks : Asks file q answer) where
   -- 1 to 15
   pub join-refused : {working out : List ℕ} {number place : ℕ} → answer ≡ look.the-variants.At number place → Joins file q working working out out (code.the-variants.Refused number place)
-  join-refused {working} {out} e = refused-first file q working out (ap (λ (f : Fault). firstOf f (roomFault recordSize (length out) (halvesFault recordSize (length working) (halvesFor file q)))) (sym asks ∙ ap faultSaid e))
+  join-refused {working} {out} e = refused-first file q working out (ap (λ (f : Fault). firstOf f (roomFault (length out) (halvesFault recordSize (length working) (halvesFor file q)))) (sym asks ∙ ap faultSaid e))
 
   module _ (is : answer ≡ look.the-variants.Sound) where
     none : askedFault file q ≡ sound
@@ -46,7 +47,7 @@ module _ (file : List ℕ) (q : Question) {answer : look.Fault} (asks : Asks fil
 
     -- 16
     pub join-short : {working out : List ℕ} → length out < recordSize → Joins file q working working out out (code.the-variants.Refused 16 0)
-    join-short {working} {out} h = refused-first file q working out (ap (λ (f : Fault). firstOf f (roomFault recordSize (length out) (halvesFault recordSize (length working) (halvesFor file q)))) none ∙ rw (lt-leb recordSize (length out) h))
+    join-short {working} {out} h = refused-first file q working out (ap (λ (f : Fault). firstOf f (roomFault (length out) (halvesFault recordSize (length working) (halvesFor file q)))) none ∙ rw (lt-leb recordSize (length out) h))
 
     pub join-counts : file-passed.Passed file (personCount file) (linkCount file) (feedCount file)
     join-counts = asked-passed asks is .0
@@ -83,7 +84,7 @@ module _ (file : List ℕ) (q : Question) {answer : look.Fault} (asks : Asks fil
       same-chains = ap (λ (g : Graph). byHops g (q .from) (q .to) (q .hops)) (fun-ext (f .graph))
 
       same-fault : (working out : List ℕ) → recordSize ≤ length out → joinFault file q working out ≡ halvesFault recordSize (length working) (halvesFor file q)
-      same-fault working out h = ap (λ (d : Fault). firstOf d (roomFault recordSize (length out) (halvesFault recordSize (length working) (halvesFor file q)))) none ∙ rw (le-leb recordSize (length out) h)
+      same-fault working out h = ap (λ (d : Fault). firstOf d (roomFault (length out) (halvesFault recordSize (length working) (halvesFor file q)))) none ∙ rw (le-leb recordSize (length out) h)
 
       pub join-joins : {working working′ out out′ : List ℕ} {r : code.Answer} → recordSize ≤ length out → JoinsIn rows targets (q .from) (q .to) (q .hops) working working′ out out′ r → Joins file q working working′ out out′ r
       join-joins {working} {working′} {out} {out′} {r} h j =

@@ -10,8 +10,7 @@ use Rattle.ways.specs.Sizes.{recordSize, mostHops}
 use Rattle.compact.specs.Compact.{persons, graphOf, Compact}
 use Rattle.question.specs.declared.Question.{Question}
 use Rattle.refusals.specs.declared.Answer as code
-use Rattle.portion.specs.Answers.{cellsFor}
-use Rattle.refusals.specs.Answers.{answerSaid, answerFor}
+use Rattle.refusals.specs.Answers.{answerSaid, answerFor, cellsFor}
 use Rattle.join.specs.Lists.{halvesFor, chainsFor, halvesFault, joinFault, firstOnes, allFit}
 
 -- "the two answers are the portion's": listed, how many and whether that was all, or refused, number and place

@@ -6,6 +6,7 @@ use lib.ListN.{length, take}
 use lib.Dec.{leb}
 use Rattle.linkfile.specs.Format.{personCount}
 use Rattle.refusals.specs.Faults.{Fault, sound, unless, firstOf}
+use Rattle.refusals.specs.Answers.{roomFault}
 use Rattle.ways.specs.Records.{roomOf}
 use Rattle.ways.specs.ByHops.{byHops}
 use Rattle.ways.specs.Halves.{halves, halvesFit}
@@ -23,17 +24,13 @@ halvesFor file q = halves (next file q) (personCount file) (q .from) (q .to) (q 
 abbrev pub chainsFor : List ℕ → Question → List (List ℕ)
 chainsFor file q = byHops (next file q) (q .from) (q .to) (q .hops)
 
--- 16: output under ten cells
-abbrev pub roomFault : ℕ → ℕ → Fault → Fault
-roomFault size cells after = unless (leb size cells) 16 0 after
-
 -- 18: working cells hold fewer records than there are half chains
 abbrev pub halvesFault : ℕ → ℕ → List (List ℕ) → Fault
 halvesFault size cells halfChains = unless (halvesFit size cells halfChains) 18 0 sound
 
 -- the first refusal of a join: 1 to 9, 10 to 15, 16, 18
 abbrev pub joinFault : List ℕ → Question → List ℕ → List ℕ → Fault
-joinFault file q working out = firstOf (askedFault file q) (roomFault recordSize (length out) (halvesFault recordSize (length working) (halvesFor file q)))
+joinFault file q working out = firstOf (askedFault file q) (roomFault (length out) (halvesFault recordSize (length working) (halvesFor file q)))
 
 -- "the first r chains, or all if fewer"
 abbrev pub firstOnes : List (List ℕ) → List ℕ → List (List ℕ)

@@ -19,10 +19,12 @@ use Rattle.question.specs.Asked.{personFault}
 use Rattle.question.proofs.Numbered.{person-numbered}
 use Rattle.distance.specs.Answers as distance
 use Rattle.distance.specs.declared.Answer as distance-code
-use Rattle.portion.specs.Listing.{listingFor, Start, portionFault, portionFor, endedFor, startsAfter}
-use Rattle.portion.specs.Answers as portion
-use Rattle.refusals.specs.declared.Answer as portion-code
-use Rattle.portion.proofs.Numbered.{portion-numbered}
+use Rattle.portion.specs.Listing.{listingFor, portionFault, portionFor, endedFor, Portioned}
+use Rattle.listing.specs.Portions.{Start, startsAfter}
+use Rattle.refusals.specs.Answers.{answerSaid, answerFor}
+use Rattle.refusals.specs.declared.Answer as code
+use Rattle.refusals.proofs.Numbered.{numbered-more}
+use Rattle.portion.proofs.Instance.{portion-numbered}
 use Rattle.join.specs.Lists as lists
 use Rattle.join.specs.Answers.{Joins}
 use Rattle.join.proofs.Numbered.{join-numbered}
@@ -46,18 +48,17 @@ fewest-refused file q person {number = number} {place} is e = go (firstOf (fileF
     go sound h i e = let z : _≡_ {A = ℕ} 0 1 = cc in absurd (omega arith)
     go (fault r p) h i e = let same : r ≡ number = cc in omega (arith, i .1)
 
--- the portion's answer has room in 64 bits
-pub portion-small : {file : List ℕ} {q : Question} {start : Start} {out out′ : List ℕ} {answer : portion-code.Answer} → portion.Portioned file q start out out′ answer → length out < 2 ^ 62 → Small (portion.answerSaid answer)
-portion-small {file} {q} {start} {out} p h = subst Small (sym (p .answers)) (go (portionFault file q start out) (portion-numbered file q start out))
-  where
-    go : (f : Fault) → Numbered 17 f → Small (portion.answerFor f (length (portionFor file q start out)) (endedFor file q start out))
-    go sound i = omega (arith, length-take (roomOf recordSize (length out)) (after (startsAfter start) (listingFor file q)))
-    go (fault r t) i = (omega (arith, i .1), i .2)
+-- an answer has room in 64 bits if its numbers have
+answer-small : (f : Fault) (n : ℕ) (ended : Bool) → Numbered 18 f → n < 2 ^ 62 → Small (answerFor f n ended)
+answer-small sound n ended i h = h
+answer-small (fault number place) n ended i h = (i .1, i .2)
 
--- and so has the join's
-pub join-small : {file : List ℕ} {q : Question} {working working′ out out′ : List ℕ} {answer : portion-code.Answer} → Joins file q working working′ out out′ answer → length out < 2 ^ 62 → Small (portion.answerSaid answer)
-join-small {file} {q} {working} {out = out} p h = subst Small (sym (p .answers)) (go (lists.joinFault file q working out) (join-numbered file q working out))
-  where
-    go : (f : Fault) → Numbered 18 f → Small (portion.answerFor f (length (lists.firstOnes (lists.chainsFor file q) out)) (lists.allFit (lists.chainsFor file q) out))
-    go sound i = omega (arith, length-take (roomOf recordSize (length out)) (lists.chainsFor file q))
-    go (fault r t) i = (omega (arith, i .1), i .2)
+pub portion-small : (file : List ℕ) (q : Question) {start : Start} {out out′ : List ℕ} {answer : code.Answer} → Portioned file q start out out′ answer → length out < 2 ^ 62 → Small (answerSaid answer)
+portion-small file q {start} {out} p h =
+    let few : length (portionFor file q start out) < 2 ^ 62 = omega (arith, length-take (roomOf recordSize (length out)) (after (startsAfter start) (listingFor file q))) in
+    subst Small (sym (p .answers)) (answer-small (portionFault file q start out) (length (portionFor file q start out)) (endedFor file q start out) (numbered-more 17 18 (omega arith) (portionFault file q start out) (portion-numbered file q start out)) few)
+
+pub join-small : {file : List ℕ} {q : Question} {working working′ out out′ : List ℕ} {answer : code.Answer} → Joins file q working working′ out out′ answer → length out < 2 ^ 62 → Small (answerSaid answer)
+join-small {file} {q} {working} {out = out} p h =
+    let few : length (lists.firstOnes (lists.chainsFor file q) out) < 2 ^ 62 = omega (arith, length-take (roomOf recordSize (length out)) (lists.chainsFor file q)) in
+    subst Small (sym (p .answers)) (answer-small (lists.joinFault file q working out) (length (lists.firstOnes (lists.chainsFor file q) out)) (lists.allFit (lists.chainsFor file q) out) (join-numbered file q working out) few)

@@ -7,10 +7,10 @@ use lib.ListN.{length}
 use lib.Dec.{eqb}
 use borrow.Author.Tests.{eqb-true, eqb-false}
 use Rattle.question.specs.declared.Question.{Question}
-use Rattle.portion.specs.Listing.{Start}
+use Rattle.listing.specs.Portions.{Start}
 use Rattle.refusals.specs.Answers.{answerSaid}
 use Rattle.refusals.specs.declared.Answer as code
-use Rattle.portion.proofs.OneResult.{portion-one}
+use Rattle.listing.proofs.OneResult.{portion-one}
 use Rattle.held.proofs.OneResult.{held-one}
 use Rattle.join.proofs.OneResult.{join-one}
 use Rattle.outside.specs.Encoded.{listedNumber, CheckNumber, RowNumber, FewestNumber, PortionNumber, JoinNumber}

@@ -9,8 +9,9 @@ use Rattle.linkfile.specs.Checked.{checked}
 use Rattle.linkfile.specs.Rows.{rowView}
 use Rattle.question.specs.declared.Question.{Question}
 use Rattle.distance.specs.Answers as distance
-use Rattle.portion.specs.Answers as portion
-use Rattle.portion.specs.Listing.{Start}
+use Rattle.refusals.specs.Answers as answers
+use Rattle.portion.specs.Listing.{Portioned}
+use Rattle.listing.specs.Portions.{Start}
 use Rattle.refusals.specs.declared.Answer as code
 use Rattle.join.specs.Answers.{Joins}
 
@@ -38,14 +39,14 @@ abbrev pub endedNumber : Bool → ℕ
 endedNumber true = 1
 endedNumber false = 0
 
-abbrev pub listedNumber : portion.Answer → ℕ
-listedNumber (portion.listed count ended) = count + endedNumber ended * 2 ^ 62
-listedNumber (portion.refused number place) = refusalNumber number place
+abbrev pub listedNumber : answers.Answer → ℕ
+listedNumber (answers.listed count ended) = count + endedNumber ended * 2 ^ 62
+listedNumber (answers.refused number place) = refusalNumber number place
 
 -- an answer whose numbers have room in it
-abbrev pub Small : portion.Answer → Type 0
-Small (portion.listed count ended) = count < 2 ^ 62
-Small (portion.refused number place) = (number ≤ 18) × (place < 2 ^ 32)
+abbrev pub Small : answers.Answer → Type 0
+Small (answers.listed count ended) = count < 2 ^ 62
+Small (answers.refused number place) = (number ≤ 18) × (place < 2 ^ 32)
 
 -- what each function answers, and the lent cells at exit: the promise of the operation behind it, its answer as a number
 abbrev pub CheckNumber : List ℕ → ℕ → Type 0
@@ -60,12 +61,12 @@ FewestNumber file q person number = number ≡ hopsNumber (distance.answered fil
 
 pub record PortionNumber (file : List ℕ) (q : Question) (start : Start) (out out′ : List ℕ) (number : ℕ) : Type 0 where
   pub answer : code.Answer
-  pub portioned : portion.Portioned file q start out out′ answer
-  pub small : Small (portion.answerSaid answer)
-  pub answers : number ≡ listedNumber (portion.answerSaid answer)
+  pub portioned : Portioned file q start out out′ answer
+  pub small : Small (answers.answerSaid answer)
+  pub answers : number ≡ listedNumber (answers.answerSaid answer)
 
 pub record JoinNumber (file : List ℕ) (q : Question) (working working′ out out′ : List ℕ) (number : ℕ) : Type 0 where
   pub answer : code.Answer
   pub joins : Joins file q working working′ out out′ answer
-  pub small : Small (portion.answerSaid answer)
-  pub answers : number ≡ listedNumber (portion.answerSaid answer)
+  pub small : Small (answers.answerSaid answer)
+  pub answers : number ≡ listedNumber (answers.answerSaid answer)

@@ -7,7 +7,7 @@ use question::Question;
 use refusals::Answer;
 ghost use mathlib.Core.Path.{_≡_};
 ghost use lib.ListN.{length};
-ghost use Rattle.portion.specs.Listing.{startSaid};
+ghost use Rattle.listing.specs.Portions.{startSaid};
 ghost use Rattle.refusals.specs.Answers.{answerSaid};
 ghost use Rattle.outside.specs.Encoded.{CheckNumber, RowNumber, FewestNumber, Small, listedNumber, PortionNumber, JoinNumber, asking};
 ghost use Rattle.outside.specs.HeldCells.{heldOf, heldCells, HeldNumber};

@@ -1,10 +1,5 @@
--- Laws of this room: the test of a bookmark, where a portion starts, portions laid end to end, and one result only.
+-- Laws of this room: the chains from From to To are a listing, the test of a bookmark, and where a portion starts.
 pub mod Bookmarks
 pub mod Cells
 pub mod Starting
-pub mod Numbered
-pub mod Records
-pub mod Known
-pub mod Telling
-pub mod LaidEnd
-pub mod OneResult
+pub mod Instance

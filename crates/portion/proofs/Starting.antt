@@ -1,21 +1,21 @@
 -- Where a portion may start, and what is refused: from the tests to the promise.
-use mathlib.Core.Path.{_≡_, refl, sym, fun-ext, _∙_}
+use mathlib.Core.Path.{_≡_, sym, fun-ext, _∙_}
 use mathlib.Core.Bool.{Bool, true, false, cond}
-use mathlib.Core.List.{List, []}
-use Prim.Native.Nat.{ℕ, _+_, _<_, _≤_}
+use mathlib.Core.List.{List}
+use Prim.Native.Nat.{ℕ, _+_, _≤_}
 use native.Mathlib.Omega.{arith}
 use lib.ListN.{length}
 use lib.Dec.{eqb}
-use borrow.Author.Tests.{le-leb, lt-leb, ne-eqb}
+use borrow.Author.Tests.{ne-eqb}
 use Rattle.linkfile.specs.Format.{personCount}
-use Rattle.refusals.specs.Faults.{sound, fault, unless}
+use Rattle.refusals.specs.Faults.{sound, unless}
 use Rattle.linkfile.specs.Checked.{fileFault}
 use Rattle.refusals.proofs.Faults.{first-both}
 use Rattle.linkfile.proofs.Passed.{sound-rules, passed-fits}
 use Rattle.ways.specs.Graph.{Graph}
 use Rattle.ways.specs.Listing.{listing}
 use Rattle.ways.specs.Portions.{endedAfter}
-use Rattle.ways.specs.Records.{chainOf, isRecordIn, roomOf}
+use Rattle.ways.specs.Records.{isRecordIn, roomOf}
 use Rattle.ways.specs.Sizes.{recordSize}
 use Rattle.compact.specs.Compact.{graphOf, persons}
 use Rattle.question.specs.declared.Question.{Question}
@@ -25,10 +25,11 @@ use Rattle.question.specs.Filled.{Filled}
 use Rattle.question.proofs.Refused.{Proper, question-proper}
 use Rattle.search.specs.Face as search
 use Rattle.search.specs.declared.Listed as search-found
-use Rattle.portion.specs.Listing.{Start, fresh, bookmarked, startSaid, startsAfter, startFault, portionFault}
+use Rattle.listing.specs.Portions.{startSaid, startFault}
+use Rattle.listing.proofs.Answering.{start-mark, start-decides, portion-refused, start-left}
 use Rattle.portion.specs.Bookmark.{startFits}
 use Rattle.portion.specs.Inside.{Passes}
-use Rattle.portion.specs.Answers.{Portioned}
+use Rattle.portion.specs.Listing.{listingFor, portionFault, Portioned}
 use Rattle.refusals.specs.declared.Answer as code
 use Rattle.portion.proofs.Bookmarks.{bookmark-is}
 
@@ -47,34 +48,10 @@ module _ (file : List ℕ) (q : Question) (e : askedFault file q ≡ sound) wher
 pub filled-next : {file : List ℕ} {q : Question} {starts targets : List ℕ} → Filled file q starts targets → graphOf starts targets ≡ next file q
 filled-next f = fun-ext (f .graph)
 
--- a refusal answers its number and place, and changes no cell
-portioned-refused : {file : List ℕ} {q : Question} {start : Start} {out : List ℕ} {number place : ℕ} → portionFault file q start out ≡ fault number place → Portioned file q start out out (code.the-variants.Refused number place)
-portioned-refused e = record { answers = rw e; cells = rw e }
-
-pub refused-asked : {file : List ℕ} {q : Question} {start : Start} {out : List ℕ} {number place : ℕ} → askedFault file q ≡ fault number place → Portioned file q start out out (code.the-variants.Refused number place)
-unfolding portionFault
-refused-asked e = portioned-refused (rw e)
-
-pub refused-room : {file : List ℕ} {q : Question} {start : Start} {out : List ℕ} → askedFault file q ≡ sound → length out < recordSize → Portioned file q start out out (code.the-variants.Refused 16 0)
-unfolding portionFault
-refused-room {out = out} e h = portioned-refused (rw (e, lt-leb recordSize (length out) h))
-
 -- the test of the start decides 17
-start-decides : (g : Graph) (q : Question) (started : ℕ) (cells : List ℕ) → (q .from ≡ q .to → ⊥) → q .hops + 2 ≤ recordSize
+fits-decides : (g : Graph) (q : Question) (started : ℕ) (cells : List ℕ) → (q .from ≡ q .to → ⊥) → q .hops + 2 ≤ recordSize
     → startFault (listing g (q .from) (q .to) (q .hops)) (startSaid started cells) ≡ unless (startFits g q started cells) 17 0 sound
-start-decides g q started cells ne h = rw (bookmark-is g (q .from) (q .to) (q .hops) recordSize ne h cells) (go (eqb started 0))
-  where
-    go : (b : Bool) → startFault (listing g (q .from) (q .to) (q .hops)) (cond b fresh (bookmarked cells)) ≡ unless (cond b true (isRecordIn recordSize (listing g (q .from) (q .to) (q .hops)) cells)) 17 0 sound
-    go true = refl
-    go false = refl
-
--- the start that the search takes is the one that was said
-start-mark : (started : ℕ) (cells : List ℕ) → search.markOf started cells ≡ startsAfter (startSaid started cells)
-start-mark started cells = go (eqb started 0)
-  where
-    go : (b : Bool) → cond b [] (chainOf cells) ≡ startsAfter (cond b fresh (bookmarked cells))
-    go true = refl
-    go false = refl
+fits-decides g q started cells ne h = rw (bookmark-is g (q .from) (q .to) (q .hops) recordSize ne h cells) (start-decides (listing g (q .from) (q .to) (q .hops)) started cells)
 
 -- no chain follows just where the search says so
 more-ended : (ended : Bool) (more : ℕ) → more ≡ cond ended 0 1 → eqb more 0 ≡ ended
@@ -84,13 +61,12 @@ more-ended false more e = rw e
 module _ {file : List ℕ} {q : Question} {starts targets out : List ℕ} (p : Passes file q out) (f : Filled file q starts targets) (started : ℕ) (cells : List ℕ) where
   -- what is refused is decided by the test of the start alone
   decides : portionFault file q (startSaid started cells) out ≡ unless (startFits (graphOf starts targets) q started cells) 17 0 sound
-  unfolding portionFault
   decides =
       let proper = asked-proper file q (p .asked) in
-      rw (p .asked, le-leb recordSize (length out) (p .room), filled-next f) (start-decides (next file q) q started cells (proper .differ) (omega (arith, proper .most)))
+      start-left (listingFor file q) (startSaid started cells) out (p .asked) (p .room) ∙ rw (filled-next f) (fits-decides (next file q) q started cells (proper .differ) (omega (arith, proper .most)))
 
   pub refused-start : startFits (graphOf starts targets) q started cells ≡ false → Portioned file q (startSaid started cells) out out (code.the-variants.Refused 17 0)
-  refused-start e = portioned-refused (decides ∙ rw e)
+  refused-start e = portion-refused (decides ∙ rw e)
 
   -- a bookmark that the test lets pass is one that the search may start from
   pub start-marked : startFits (graphOf starts targets) q started cells ≡ true → (started ≡ 0 → ⊥) → isRecordIn recordSize (listing (graphOf starts targets) (q .from) (q .to) (q .hops)) cells ≡ true

@@ -1,6 +1,4 @@
--- The listing of a file and a question, the promise of the portion (Answers), and calls laid end to end. Definitions only.
+-- The listing of a file and a question and the promise of the portion (Listing), and the test of a bookmark. Definitions only.
 pub mod Listing
 pub mod Bookmark
 pub mod Inside
-pub mod Answers
-pub mod EndToEnd

@@ -11,17 +11,12 @@ use distance::table;
 use linkfile::header;
 use question::Question;
 use question::filling;
+use refusals::Answer;
 use refusals::Fault;
 use ways::RECORD;
-ghost use Rattle.portion.specs.Listing.{startSaid};
+ghost use Rattle.listing.specs.Portions.{startSaid};
 ghost use Rattle.portion.specs.Inside.{Passes};
-ghost use Rattle.portion.specs.Answers.{Portioned};
-
-// What a portion answers.
-pub enum Answer {
-    Listed { count: usize, ended: bool },
-    Refused { number: u32, place: u32 },
-}
+ghost use Rattle.portion.specs.Listing.{Portioned};
 
 // Writes the first chains after the bookmark to the output, as records from cell 0 on, as many as it has room for, and answers how
 // many and whether the listing has ended. With `started` 0 it starts afresh, and the bookmark isn't looked at.

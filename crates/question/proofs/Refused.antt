@@ -11,10 +11,9 @@ use Rattle.linkfile.specs.Format.{personCount, linkCount, feedCount}
 use Rattle.refusals.specs.Faults.{Fault, sound, unless, firstOf, faultSaid}
 use Rattle.linkfile.specs.Checked.{fileFault}
 use Rattle.refusals.specs.declared.Fault as code
-use Rattle.refusals.proofs.Faults.{first-both}
+use Rattle.refusals.proofs.Faults.{first-both, unless-none}
 use Rattle.linkfile.proofs.Counted.{within-facts}
 use Rattle.linkfile.proofs.Passed.{Passed, sound-rules}
-use Rattle.refusals.proofs.Faults.{unless-none}
 use Rattle.ways.specs.Sizes.{mostHops}
 use Rattle.question.specs.Asked.{endsFault, restFault, questionFault, personFault, Asks}
 use Rattle.question.specs.declared.Question.{Question}

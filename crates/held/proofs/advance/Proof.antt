@@ -49,8 +49,8 @@ use Rattle.refusals.specs.declared.Answer.{Answer}
 use Rattle.held.specs.declared.Outcome.{Outcome}
 use Rattle.held.proofs.Held as T
 use Rattle.held.proofs.Held.Laws as T′
-use Rattle.portion.proofs.Answer as P
-use Rattle.portion.proofs.Answer.Laws as P′
+use Rattle.refusals.proofs.Answer as P
+use Rattle.refusals.proofs.Answer.Laws as P′
 use Rattle.held.proofs.Outcome as R
 use Rattle.held.proofs.Outcome.Laws as R′
 use Rattle.held.proofs.moved as moved

@@ -1,9 +1,6 @@
 -- `moved` meets its contract: the case of the portion's answer says which case of the held listing holds.
 use native.Mathlib.Omega.{arith}
-use mathlib.Core.Path.{ap}
-use Rattle.refusals.specs.Answers.{answerSaid}
-use Rattle.portion.proofs.Telling.{last-within}
-use Rattle.held.proofs.Telling.{moved-refused, moved-none, moved-some}
+use Rattle.held.proofs.Telling.{last-stands, moved-refused, moved-none, moved-some}
 use borrow.Author.Needs.{needs}
 use Rattle.held.proofs.moved.Statement.{statement}
 use Rattle.held.proofs.moved.Tie as tie
@@ -14,12 +11,12 @@ returns c = moved-refused (c .before .before .before .before .portion .ensures) 
 mul-record-at : tie.Need-mul-record-at
 mul-record-at c =
     let at-portion = c .before .before .before .before .before .before .before .portion in
-    omega (arith, last-within (at-portion .ensures) (ap answerSaid (c .before .before .before .answer .given .1)) (c .before .if1 .taken))
+    omega (arith, last-stands _ _ (at-portion .ensures) (c .before .before .before .answer .given .1) (c .before .if1 .taken))
 
 record-at-requires : tie.Need-record-at-requires
 record-at-requires c κs =
     let at-portion = c .before .before .before .before .before .before .before .portion in
-    omega (arith, last-within (at-portion .ensures) (ap answerSaid (c .before .before .before .answer .given .1)) (c .before .if1 .taken))
+    omega (arith, last-stands _ _ (at-portion .ensures) (c .before .before .before .answer .given .1) (c .before .if1 .taken))
 
 returns-2 : tie.Need-returns-2
 returns-2 c =

@@ -13,7 +13,7 @@ listed-number-requires : tie.Need-listed-number-requires
 listed-number-requires c κs =
     let at-moved = c .before .before .before .before .before .before .before .advanced in
     let at-start = c .before .before .before .before .before .before .before .before .before .before .before .before .before .before .before in
-    portion-small (at-moved .ensures .portioned) (omega (arith, at-start .good))
+    portion-small _ _ (at-moved .ensures .portioned) (omega (arith, at-start .good))
 
 returns-2 : tie.Need-returns-2
 returns-2 c =
@@ -28,7 +28,7 @@ returns-2 c =
             answer = at-moved .result .answer;
             held = at-moved .result .held;
             moves = rw (at-held-of .ensures) at (at-moved .ensures);
-            small = portion-small (at-moved .ensures .portioned) (omega (arith, at-start .good));
+            small = portion-small _ _ (at-moved .ensures .portioned) (omega (arith, at-start .good));
             answers = c .listed-number .ensures;
             keeps = c .before .before .before .keep .ensures;
           };

@@ -7,10 +7,10 @@ use Prim.Native.Nat.{ℕ, zero, suc, _+_, _*_, _-_, _≤_}
 use lib.ListN.{length, take, drop}
 use Rattle.ways.specs.Records.{chainOf, roomOf, cellsOf}
 use Rattle.ways.specs.Sizes.{recordSize}
-use Rattle.question.specs.declared.Question.{Question}
+use Rattle.refusals.specs.Faults.{Fault}
 use Rattle.refusals.specs.declared.Answer as code
-use Rattle.portion.specs.Listing.{listingFor, Start, bookmarked}
-use Rattle.portion.specs.Answers.{Portioned}
+use Rattle.listing.specs.Portions.{Start, bookmarked}
+use Rattle.listing.specs.Answers.{PortionOf}
 use Rattle.refusals.specs.Answers.{Answer, listed, refused, answerSaid}
 
 -- one call: the output as it was lent and at exit, and the answer
@@ -45,11 +45,11 @@ startBehind start zero cells = start
 startBehind start (suc count) cells = bookmarked (lastRecord (suc count) cells)
 
 -- "Each starts after the last chain handed over, or fresh if none has been, and has room for at least one."
--- a run of calls on one file and question, from a start on
-pub data Run (file : List ℕ) (q : Question) : Start → List Call → Type 0 where
-  done : {start : Start} → Run file q start []
-  call : {start : Start} {c : Call} {calls : List Call} → Portioned file q start (c .out) (c .exit) (c .answer) → recordSize ≤ length (c .out)
-      → Run file q (startBehind start (countOf (answerSaid (c .answer))) (c .exit)) calls → Run file q start (c ∷ calls)
+-- a run of calls on one listing, from a start on
+pub data Run (first : Fault) (chains : List (List ℕ)) : Start → List Call → Type 0 where
+  done : {start : Start} → Run first chains start []
+  call : {start : Start} {c : Call} {calls : List Call} → PortionOf first chains start (c .out) (c .exit) (c .answer) → recordSize ≤ length (c .out)
+      → Run first chains (startBehind start (countOf (answerSaid (c .answer))) (c .exit)) calls → Run first chains start (c ∷ calls)
 
 -- what a run wrote, laid end to end, and the rooms together
 abbrev pub allWrote : List Call → List ℕ
@@ -79,13 +79,9 @@ pub record Laid (left : List (List ℕ)) (calls : List Call) : Type 0 where
   pub brings : Brings left calls
   pub ends : EndsRight left calls
 
--- demand 3: from a fresh start the whole listing is left
-abbrev pub LaidEndToEnd : List ℕ → Question → List Call → Type 0
-LaidEndToEnd file q calls = Laid (listingFor file q) calls
-
--- and after a bookmark, whoever kept it: what stands behind its own chain
-pub record Resumed (file : List ℕ) (q : Question) (bookmark : List ℕ) (calls : List Call) : Type 0 where
+-- from a fresh start the whole listing is left; and after a bookmark, whoever kept it, what stands behind its own chain
+pub record ResumedIn (chains : List (List ℕ)) (bookmark : List ℕ) (calls : List Call) : Type 0 where
   pub before : List (List ℕ)
   pub behind : List (List ℕ)
-  pub stands : listingFor file q ≡ before ++ chainOf bookmark ∷ behind
+  pub stands : chains ≡ before ++ chainOf bookmark ∷ behind
   pub laid : Laid behind calls
