@@ -2,6 +2,10 @@
 //
 // Every function is total: any bytes, any numbers. Each is a thin face over one public operation of the rooms below, and its
 // contract is that operation's answer in the encoding of specs/. A refusal is 2^63 + number * 2^32 + place.
+mod encoding;
+
+use encoding::listed_number;
+use encoding::refusal_number;
 use linkfile::Verdict;
 use question::Question;
 use refusals::Answer;
@@ -24,9 +28,7 @@ pub extern "C" fn kin_check(file: &[u8]) -> u64
             links,
             feeds,
         } => persons as u64 + links as u64 * 0x1_0000 + feeds as u64 * 0x1_0000_0000,
-        Verdict::Refused { number, place } => {
-            0x8000_0000_0000_0000 + number as u64 * 0x1_0000_0000 + place as u64
-        }
+        Verdict::Refused { number, place } => refusal_number(number, place),
     }
 }
 
@@ -36,19 +38,6 @@ pub extern "C" fn kin_row(file: &[u8], person: u32) -> u64
     ensures { λ r. ⌜ RowNumber (now (file .entry)) person r ⌝ }
 {
     linkfile::row(file, person).len() as u64
-}
-
-// Listed: count + ended * 2^62; or the refusal.
-fn listed_number(answer: Answer) -> u64
-    requires { ⌜ Small (answerSaid answer) ⌝ }
-    ensures { λ r. ⌜ r ≡ listedNumber (answerSaid answer) ⌝ }
-{
-    match answer {
-        Answer::Listed { count, ended } => { count as u64 + ended as u64 * 0x4000_0000_0000_0000 }
-        Answer::Refused { number, place } => {
-            0x8000_0000_0000_0000 + number as u64 * 0x1_0000_0000 + place as u64
-        }
-    }
 }
 
 // The fewest hops, or hops + 1.
@@ -66,20 +55,10 @@ pub extern "C" fn kin_fewest(
 ) -> u64
     ensures { λ r. ⌜ FewestNumber (now (file .entry)) (asking from to hops classes meaning first last) person r ⌝ }
 {
-    let question = Question {
-        from,
-        to,
-        hops,
-        classes,
-        meaning,
-        first,
-        last,
-    };
+    let question = asking(from, to, hops, classes, meaning, first, last);
     match distance::fewest(file, question, person) {
         distance::Answer::Hops(fewest) => fewest as u64,
-        distance::Answer::Refused { number, place } => {
-            0x8000_0000_0000_0000 + number as u64 * 0x1_0000_0000 + place as u64
-        }
+        distance::Answer::Refused { number, place } => refusal_number(number, place),
     }
 }
 
@@ -100,15 +79,7 @@ pub extern "C" fn kin_portion(
 ) -> u64
     ensures { λ r. ⌜ PortionNumber (now (file .entry)) (asking from to hops classes meaning first last) (startSaid started (now (bookmark .entry))) (now (out .entry)) (now (out .exit)) r ⌝ }
 {
-    let question = Question {
-        from,
-        to,
-        hops,
-        classes,
-        meaning,
-        first,
-        last,
-    };
+    let question = asking(from, to, hops, classes, meaning, first, last);
     listed_number(portion::portion(file, question, started, bookmark, out))
 }
 
@@ -128,7 +99,23 @@ pub extern "C" fn kin_join(
 ) -> u64
     ensures { λ r. ⌜ JoinNumber (now (file .entry)) (asking from to hops classes meaning first last) (now (working .entry)) (now (working .exit)) (now (out .entry)) (now (out .exit)) r ⌝ }
 {
-    let question = Question {
+    let question = asking(from, to, hops, classes, meaning, first, last);
+    listed_number(join::join(file, question, working, out))
+}
+
+// The seven numbers of a question, in the customer's order.
+fn asking(
+    from: u32,
+    to: u32,
+    hops: u32,
+    classes: u32,
+    meaning: u32,
+    first: u32,
+    last: u32,
+) -> Question
+    ensures { λ r. ⌜ r ≡ asking from to hops classes meaning first last ⌝ }
+{
+    Question {
         from,
         to,
         hops,
@@ -136,8 +123,7 @@ pub extern "C" fn kin_join(
         meaning,
         first,
         last,
-    };
-    listed_number(join::join(file, question, working, out))
+    }
 }
 
 // A held listing in cells: the seven numbers of its question, started, the record.

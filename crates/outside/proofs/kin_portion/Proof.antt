@@ -6,13 +6,15 @@ use Rattle.outside.proofs.kin_portion.Statement.{statement}
 use Rattle.outside.proofs.kin_portion.Tie as tie
 
 listed-number-requires : tie.Need-listed-number-requires
-listed-number-requires c κs = portion-small _ _ (c .before .before .portion .ensures) (omega (arith, c .before .before .before .before .before .before .before .good))
+listed-number-requires c κs = portion-small _ _ (c .before .before .portion .ensures) (omega (arith, c .before .before .before .before .before .before .before .before .good))
 
 returns : tie.Need-returns
 returns c =
     let at-portion = c .before .before .before .portion in
-    let at-start = c .before .before .before .before .before .before .before .before in
-    record { answer = at-portion .result; portioned = at-portion .ensures; small = portion-small _ _ (at-portion .ensures) (omega (arith, at-start .good)); answers = c .listed-number .ensures }
+    let at-asking = c .before .before .before .before .before .asking in
+    let at-start = c .before .before .before .before .before .before .before .before .before in
+    rw (← at-asking .ensures)
+    (record { answer = at-portion .result; portioned = at-portion .ensures; small = portion-small _ _ (at-portion .ensures) (omega (arith, at-start .good)); answers = c .listed-number .ensures })
 
 pub kin-portion-spec : {M : Type 1} → statement M
-kin-portion-spec = tie.close (tie.spec (λ c κs. search needs) listed-number-requires (λ c. search needs) returns)
+kin-portion-spec = tie.close (tie.spec (λ c κs. search needs) (λ c κs. search needs) listed-number-requires (λ c. search needs) returns)
