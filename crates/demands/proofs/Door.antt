@@ -41,7 +41,7 @@ use Rattle.held.specs.Holding.{startOf, MovedOn}
 use Rattle.join.specs.Lists.{chainsFor, joinFault, firstOnes, allFit}
 use Rattle.join.proofs.Numbered.{join-numbered}
 use Rattle.outside.specs.Encoded.{refusalNumber, endedNumber, listedNumber, Small, CheckNumber, RowNumber, FewestNumber, PortionNumber, JoinNumber}
-use Rattle.outside.specs.HeldCells.{heldOf, heldCells, MovedCells, HeldNumber}
+use Rattle.outside.specs.HeldCells.{heldSize, heldOf, heldCells, MovedCells, HeldNumber}
 use Rattle.outside.specs.TakenApart.{countIn, personsIn, linksIn, feedsIn}
 use Rattle.outside.proofs.Numbered.{ended-few}
 use Rattle.outside.proofs.HeldCells.{held-kept, movedTo, held-back}
@@ -137,9 +137,9 @@ kin-join {file} {q} {working} {out = out} j =
     (λ number place e. (j .joins .shelf ∙ rw e, j .joins .cells ∙ rw e))
 
 -- a call on 18 cells
-module _ {file cells cells′ out out′ : List ℕ} {answer : ℕ} (whole : length cells ≡ 18) (m : MovedCells file cells cells′ out out′ answer) where
+module _ {file cells cells′ out out′ : List ℕ} {answer : ℕ} (whole : length cells ≡ heldSize) (m : MovedCells file cells cells′ out out′ answer) where
   unmoved : m .held ≡ heldOf cells → cells′ ≡ cells
-  unmoved same = m .keeps ∙ ap (heldCells cells) same ∙ held-kept cells
+  unmoved same = m .keeps ∙ ap (heldCells cells) same ∙ held-kept cells whole
 
   -- a refusal leaves the held listing as it was, and so its cells
   refused-stays : (number place : ℕ) → portionFault file (heldOf cells .question) (startOf (heldOf cells)) out ≡ fault number place → (cells′ ≡ cells) × (out′ ≡ out)
@@ -190,25 +190,25 @@ tells-lower t =
 module _ {file cells cells′ out out′ : List ℕ} {answer : ℕ} (h : HeldNumber file cells cells′ out out′ answer) where
   kin-held : Tells (heldFault file cells out) 0 17 answer ((cells′ ≡ cells) × (out′ ≡ out))
       (Listed answer (length (portionFor file (heldOf cells .question) (startOf (heldOf cells)) out)) (endedFor file (heldOf cells .question) (startOf (heldOf cells)) out))
-  kin-held = go (eqb (length cells) 18) refl
+  kin-held = go (eqb (length cells) heldSize) refl
     where
-      go : (whole : Bool) → eqb (length cells) 18 ≡ whole
+      go : (whole : Bool) → eqb (length cells) heldSize ≡ whole
           → Tells (sizeFault whole (portionFault file (heldOf cells .question) (startOf (heldOf cells)) out)) 0 17 answer ((cells′ ≡ cells) × (out′ ≡ out))
           (Listed answer (length (portionFor file (heldOf cells .question) (startOf (heldOf cells)) out)) (endedFor file (heldOf cells .question) (startOf (heldOf cells)) out))
-      go true e = let whole = eqb-true (length cells) 18 e in tells-lower (moved-tells whole (h .moved whole))
+      go true e = let whole = eqb-true (length cells) heldSize e in tells-lower (moved-tells whole (h .moved whole))
       go false e =
-          let w = h .wrongSize (eqb-false (length cells) 18 e) in
+          let w = h .wrongSize (eqb-false (length cells) heldSize e) in
           tells (sizeFault false (portionFault file (heldOf cells .question) (startOf (heldOf cells)) out)) 0 17 (omega arith) (omega arith, omega arith, omega arith) (λ i. let z : _≡_ {A = ℕ} 0 1 = cc in absurd (omega arith))
           (λ number place i. let zero : 0 ≡ number = cc in let none : 0 ≡ place = cc in (omega (arith, w .0), (w .1, w .2)))
 
   kin-held-stays : countIn answer ≡ 0 → (cells′ ≡ cells) × (out′ ≡ out)
-  kin-held-stays zero = go (eqb (length cells) 18) refl
+  kin-held-stays zero = go (eqb (length cells) heldSize) refl
     where
-      go : (whole : Bool) → eqb (length cells) 18 ≡ whole → (cells′ ≡ cells) × (out′ ≡ out)
-      go true e = let whole = eqb-true (length cells) 18 e in none-stays whole (h .moved whole) zero
-      go false e = let w = h .wrongSize (eqb-false (length cells) 18 e) in (w .1, w .2)
+      go : (whole : Bool) → eqb (length cells) heldSize ≡ whole → (cells′ ≡ cells) × (out′ ≡ out)
+      go true e = let whole = eqb-true (length cells) heldSize e in none-stays whole (h .moved whole) zero
+      go false e = let w = h .wrongSize (eqb-false (length cells) heldSize e) in (w .1, w .2)
 
-  kin-held-moves : length cells ≡ 18 → (said : code.Answer) × MovedOn file (heldOf cells) (heldOf cells′) out out′ said × (answer ≡ listedNumber (answerSaid said))
+  kin-held-moves : length cells ≡ heldSize → (said : code.Answer) × MovedOn file (heldOf cells) (heldOf cells′) out out′ said × (answer ≡ listedNumber (answerSaid said))
   kin-held-moves whole = let m = h .moved whole in (m .answer, moves-on whole m, m .answers)
 
 pub at-the-door : AtTheDoor

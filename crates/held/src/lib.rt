@@ -48,7 +48,7 @@ pub fn moved(held: Held, file: &[u8], out: &mut [u32]) -> Outcome
 }
 
 // The record that stands in the cells from `at` on.
-fn record_at(cells: &[u32], at: usize) -> [u32; RECORD]
+pub fn record_at(cells: &[u32], at: usize) -> [u32; RECORD]
     requires { ⌜ at + recordSize ≤ length (now cells) ⌝ }
     ensures { λ r. ⌜ r ≡ take recordSize (drop at (now (cells .entry))) ⌝ }
 {

@@ -14,7 +14,7 @@ use Rattle.listing.proofs.OneResult.{portion-one}
 use Rattle.held.proofs.OneResult.{held-one}
 use Rattle.join.proofs.OneResult.{join-one}
 use Rattle.outside.specs.Encoded.{listedNumber, CheckNumber, RowNumber, FewestNumber, PortionNumber, JoinNumber}
-use Rattle.outside.specs.HeldCells.{heldCells, HeldNumber}
+use Rattle.outside.specs.HeldCells.{heldSize, heldCells, HeldNumber}
 
 pub kin-check-one : (file : List ℕ) {a b : ℕ} → CheckNumber file a → CheckNumber file b → a ≡ b
 kin-check-one file one other = one ∙ sym other
@@ -39,17 +39,17 @@ kin-join-one p r = let e = join-one (p .joins) (r .joins) in (same-number (p .an
 
 pub kin-held-one : {file cells cells₁ cells₂ out out₁ out₂ : List ℕ} {a b : ℕ}
     → HeldNumber file cells cells₁ out out₁ a → HeldNumber file cells cells₂ out out₂ b → (a ≡ b) × (cells₁ ≡ cells₂) × (out₁ ≡ out₂)
-kin-held-one {cells = cells} {cells₁} {cells₂} {out} {out₁} {out₂} {a} {b} p r = go (eqb (length cells) 18) refl
+kin-held-one {cells = cells} {cells₁} {cells₂} {out} {out₁} {out₂} {a} {b} p r = go (eqb (length cells) heldSize) refl
   where
-    go : (is18 : Bool) → eqb (length cells) 18 ≡ is18 → (a ≡ b) × (cells₁ ≡ cells₂) × (out₁ ≡ out₂)
+    go : (is18 : Bool) → eqb (length cells) heldSize ≡ is18 → (a ≡ b) × (cells₁ ≡ cells₂) × (out₁ ≡ out₂)
     go true e =
-        let whole = eqb-true (length cells) 18 e in
+        let whole = eqb-true (length cells) heldSize e in
         let m = p .moved whole in
         let n = r .moved whole in
         let same = held-one (m .moves) (n .moves) in
         (same-number (m .answer) (n .answer) (same .0) (m .answers) (n .answers), m .keeps ∙ ap (heldCells cells) (same .1) ∙ sym (n .keeps), same .2)
     go false e =
-        let wrong = eqb-false (length cells) 18 e in
+        let wrong = eqb-false (length cells) heldSize e in
         let m = p .wrongSize wrong in
         let n = r .wrongSize wrong in
         (m .0 ∙ sym (n .0), m .1 ∙ sym (n .1), m .2 ∙ sym (n .2))

@@ -1,9 +1,33 @@
-// How an answer is put into one number of 64 bits.
+// How a question comes as numbers, and how an answer is put into one number of 64 bits.
+use question::Question;
 use refusals::Answer;
 ghost use mathlib.Core.Path.{_≡_};
 ghost use Prim.Native.Nat.{_<_, _^_};
 ghost use Rattle.refusals.specs.Answers.{answerSaid};
-ghost use Rattle.outside.specs.Encoded.{Small, refusalNumber, listedNumber};
+ghost use Rattle.outside.specs.Encoded.{asking, Small, refusalNumber, listedNumber};
+
+// The seven numbers of a question, in the customer's order.
+pub fn asking(
+    from: u32,
+    to: u32,
+    hops: u32,
+    classes: u32,
+    meaning: u32,
+    first: u32,
+    last: u32,
+) -> Question
+    ensures { λ r. ⌜ r ≡ asking from to hops classes meaning first last ⌝ }
+{
+    Question {
+        from,
+        to,
+        hops,
+        classes,
+        meaning,
+        first,
+        last,
+    }
+}
 
 // A refusal: 2^63 + number * 2^32 + place.
 pub fn refusal_number(number: u32, place: u32) -> u64

@@ -3,19 +3,18 @@
 // Every function is total: any bytes, any numbers. Each is a thin face over one public operation of the rooms below, and its
 // contract is that operation's answer in the encoding of specs/. A refusal is 2^63 + number * 2^32 + place.
 mod encoding;
+mod held_cells;
 
+use encoding::asking;
 use encoding::listed_number;
 use encoding::refusal_number;
+use held_cells::HELD;
+use held_cells::held_of;
+use held_cells::keep;
 use linkfile::Verdict;
-use question::Question;
-use refusals::Answer;
-ghost use mathlib.Core.Path.{_≡_};
-ghost use lib.ListN.{length};
 ghost use Rattle.listing.specs.Portions.{startSaid};
-ghost use Rattle.refusals.specs.Answers.{answerSaid};
-ghost use Rattle.outside.specs.Encoded.{CheckNumber, RowNumber, FewestNumber, Small, listedNumber, PortionNumber, JoinNumber, asking};
-ghost use Rattle.outside.specs.HeldCells.{heldOf, heldCells, HeldNumber};
-use held::Held;
+ghost use Rattle.outside.specs.Encoded.{CheckNumber, RowNumber, FewestNumber, PortionNumber, JoinNumber, asking};
+ghost use Rattle.outside.specs.HeldCells.{HeldNumber};
 
 // Passed: n + m * 2^16 + f * 2^32.
 #[no_mangle]
@@ -101,81 +100,6 @@ pub extern "C" fn kin_join(
 {
     let question = asking(from, to, hops, classes, meaning, first, last);
     listed_number(join::join(file, question, working, out))
-}
-
-// The seven numbers of a question, in the customer's order.
-fn asking(
-    from: u32,
-    to: u32,
-    hops: u32,
-    classes: u32,
-    meaning: u32,
-    first: u32,
-    last: u32,
-) -> Question
-    ensures { λ r. ⌜ r ≡ asking from to hops classes meaning first last ⌝ }
-{
-    Question {
-        from,
-        to,
-        hops,
-        classes,
-        meaning,
-        first,
-        last,
-    }
-}
-
-// A held listing in cells: the seven numbers of its question, started, the record.
-const HELD: usize = 18;
-
-fn held_of(cells: &[u32]) -> Held
-    requires { ⌜ length (now cells) ≡ 18 ⌝ }
-    ensures { λ r. ⌜ r ≡ heldOf (now (cells .entry)) ⌝ }
-{
-    Held {
-        question: Question {
-            from: cells[0],
-            to: cells[1],
-            hops: cells[2],
-            classes: cells[3],
-            meaning: cells[4],
-            first: cells[5],
-            last: cells[6],
-        },
-        started: cells[7],
-        record: [
-            cells[8],
-            cells[9],
-            cells[10],
-            cells[11],
-            cells[12],
-            cells[13],
-            cells[14],
-            cells[15],
-            cells[16],
-            cells[17],
-        ],
-    }
-}
-
-// A call changes started and the record at most; the question stays.
-fn keep(cells: &mut [u32], held: Held)
-    requires { ⌜ length (now cells) ≡ 18 ⌝ }
-    ensures { λ _. ⌜ now (cells .exit) ≡ heldCells (now (cells .entry)) held ⌝ }
-{
-    let record = held.record;
-    cells[7] = held.started;
-    cells[8] = record[0];
-    cells[9] = record[1];
-    cells[10] = record[2];
-    cells[11] = record[3];
-    cells[12] = record[4];
-    cells[13] = record[5];
-    cells[14] = record[6];
-    cells[15] = record[7];
-    cells[16] = record[8];
-    cells[17] = record[9];
 }
 
 // Moves a held listing on by a portion: 18 lent cells. Answers as kin_portion; with other than 18 cells it answers 2^63 before
