@@ -1,8 +1,8 @@
 -- `raise` puts the old barrier on the trail, or changes nothing.
-use Rattle.search.proofs.Pruning.{raise-none, raise-set}
+use Rattle.barriers.proofs.Unwinding.{raise-none, raise-set}
 use borrow.Author.Needs.{needs}
-use Rattle.search.proofs.barriers.raise.Statement.{statement}
-use Rattle.search.proofs.barriers.raise.Tie as tie
+use Rattle.barriers.proofs.trail.raise.Statement.{statement}
+use Rattle.barriers.proofs.trail.raise.Tie as tie
 
 returns : tie.Need-returns
 returns c = search raise-none
@@ -14,4 +14,4 @@ pub raise-spec : {M : Type 1} → statement M
 raise-spec =
     tie.close
     (tie.spec returns (λ c. search needs) (λ c. search needs) (λ c κs. search needs) (λ c. search needs) (λ c. search needs) (λ c. search needs)
-    (λ c. search needs) (λ c. search needs) (λ c. search needs) (λ c. search needs) returns-2)
+    (λ c. search needs) (λ c. search needs) (λ c. search needs) (λ c. search needs) (λ c. search needs) returns-2)
