@@ -3,6 +3,7 @@ ghost use Rattle.search.specs.Places.{placeOf};
 ghost use Rattle.search.specs.Entering.{Ready, Entered, GoneThrough};
 use crate::places::Ask;
 use crate::places::Stand;
+use crate::places::TRAIL;
 use crate::places::Tally;
 use compact::LINKS;
 use compact::PERSONS;
@@ -18,7 +19,7 @@ pub fn enter(
     marks: &mut [bool; PERSONS],
     barriers: &mut [u8; PERSONS],
     chain: &mut [u32; RECORD],
-    trail: &mut [u16],
+    trail: &mut [u16; TRAIL],
     bookmark: &[u32],
     out: &mut [u32],
     ask: Ask,
@@ -99,7 +100,7 @@ pub fn go_through(
     marks: &mut [bool; PERSONS],
     barriers: &mut [u8; PERSONS],
     chain: &mut [u32; RECORD],
-    trail: &mut [u16],
+    trail: &mut [u16; TRAIL],
     bookmark: &[u32],
     out: &mut [u32],
     ask: Ask,
