@@ -66,10 +66,7 @@ pub fn enter(
         trail,
         bookmark,
         out,
-        Ask {
-            to: ask.to,
-            room: ask.room,
-        },
+        ask,
         Stand {
             len: len,
             left: left,

@@ -5,10 +5,13 @@ use Rattle.barriers.proofs.settle.Statement.{statement}
 use Rattle.barriers.proofs.settle.Tie as tie
 
 returns : tie.Need-returns
-returns c = search settle-raised
+returns c =
+    let at-start = c .before .before .before .before .before .before .before in
+    let at-if1 = c .before .before .before .before .before .if1 in
+    settle-raised (at-start .pre) (at-if1 .taken) (c .before .before .raise .ensures)
 
 returns-2 : tie.Need-returns-2
-returns-2 c = search settle-undone
+returns-2 c = settle-undone (c .undo .ensures)
 
 pub settle-spec : {M : Type 1} → statement M
 settle-spec =

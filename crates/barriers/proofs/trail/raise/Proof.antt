@@ -5,10 +5,10 @@ use Rattle.barriers.proofs.trail.raise.Statement.{statement}
 use Rattle.barriers.proofs.trail.raise.Tie as tie
 
 returns : tie.Need-returns
-returns c = search raise-none
+returns c = raise-none (c .before .before .pre)
 
 returns-2 : tie.Need-returns-2
-returns-2 c = search raise-set
+returns-2 c = raise-set (c .before .before .before .before .pre) (c .before .before .if1 .left) (c .wide .ensures)
 
 pub raise-spec : {M : Type 1} → statement M
 raise-spec =
