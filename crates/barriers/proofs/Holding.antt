@@ -18,7 +18,7 @@ use Rattle.ways.proofs.Fewest.{fewest-cap, fewest-in, fewest-near, none-fewest}
 use Rattle.compact.specs.Compact.{persons}
 use Rattle.barriers.specs.Trail.{heights, unwind, Raised}
 use Rattle.barriers.specs.Barriers.{Hold, Kept, Barred}
-use Rattle.barriers.specs.Settling.{Settling, Leaving, Settled}
+use Rattle.barriers.specs.Settling.{Settling, Settled}
 use Rattle.barriers.proofs.Unwinding.{trailed-none, trailed-trans, trailed-undo}
 
 -- ---- at first: the fewest hops hold, whoever was seen

@@ -10,7 +10,7 @@ use compact::PERSONS;
 // them. With twelve hops a barrier is at most 13, and 1,024 times 16 fits a cell of 16 bits.
 const HEIGHTS: usize = 16;
 
-// Puts one barrier back.
+// Puts one barrier back. Nothing is tested: the trail holds entries of persons alone.
 fn restore(barriers: &mut [u8; PERSONS], entry: u16)
     requires { ⌜ Restorable (now barriers) entry ⌝ }
     ensures { λ _. ⌜ now (barriers .exit) ≡ set (now (barriers .entry)) (entry / heights) (entry % heights) ⌝ }

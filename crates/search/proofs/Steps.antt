@@ -19,7 +19,6 @@ use Rattle.compact.specs.Compact.{graphOf}
 use Rattle.compact.proofs.Marking.{marked-more}
 use Rattle.pages.specs.Pages.{Page, emits, recordWith}
 use Rattle.pages.proofs.Handing.{emits-append, emits-more, emits-none}
-use Rattle.barriers.specs.Trail.{heights}
 use Rattle.barriers.specs.Barriers.{Barred}
 use Rattle.barriers.specs.Settling.{Settling, Settled}
 use Rattle.barriers.proofs.Holding.{barred-none, barred-trans, hold-push}
