@@ -7,7 +7,7 @@ here=$(cd "$(dirname "$0")" && pwd)
 root=$(cd "$here/../.." && pwd)
 copy=$root/target/bench/search
 mkdir -p "$copy/crates/bench_export/src" "$copy"/target/{rlib,stamp,log}
-for crate in ways compact pages search; do
+for crate in ways compact pages barriers search; do
     rm -rf "$copy/crates/$crate"
     cp -r "$root/crates/$crate" "$copy/crates/$crate"
     [ -f "$root/target/stamp/$crate" ] || continue
@@ -20,8 +20,9 @@ cat >"$copy/crates.txt" <<'END'
 ways:
 compact: ways
 pages: ways
-search: ways compact pages
-bench_export: search pages compact ways
+barriers: ways compact
+search: ways compact pages barriers
+bench_export: search barriers pages compact ways
 END
 cat >"$copy/crates/bench_export/src/lib.rt" <<'END'
 // The face of the search for C++, for the benchmark alone.

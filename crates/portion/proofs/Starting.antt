@@ -18,13 +18,13 @@ use Rattle.ways.specs.Portions.{endedAfter}
 use Rattle.ways.specs.Records.{isRecordIn, roomOf}
 use Rattle.ways.specs.Sizes.{recordSize}
 use Rattle.compact.specs.Compact.{graphOf, persons}
+use Rattle.pages.specs.declared.HandedOver.{HandedOver}
 use Rattle.question.specs.declared.Question.{Question}
 use Rattle.question.specs.Asked.{askedFault, questionFault}
 use Rattle.question.specs.Admission.{next}
 use Rattle.question.specs.Filled.{Filled}
 use Rattle.question.proofs.Refused.{Proper, question-proper}
 use Rattle.search.specs.Face as search
-use Rattle.search.specs.declared.Listed as search-found
 use Rattle.listing.specs.Portions.{startSaid, startFault}
 use Rattle.listing.proofs.Answering.{start-mark, start-decides, portion-refused, start-left}
 use Rattle.portion.specs.Bookmark.{startFits}
@@ -75,7 +75,7 @@ module _ {file : List ℕ} {q : Question} {starts targets out : List ℕ} (p : P
       sym (bookmark-is (graphOf starts targets) (q .from) (q .to) (q .hops) recordSize (proper .differ) (omega (arith, proper .most)) cells) ∙ rw (ne-eqb started 0 n) at e
 
   -- what the search found is the portion
-  pub found-portion : {out′ : List ℕ} {found : search-found.Listed} → startFits (graphOf starts targets) q started cells ≡ true → search.Answered starts targets (q .from) (q .to) (q .hops) started cells out out′ found
+  pub found-portion : {out′ : List ℕ} {found : HandedOver} → startFits (graphOf starts targets) q started cells ≡ true → search.Answered starts targets (q .from) (q .to) (q .hops) started cells out out′ found
       → Portioned file q (startSaid started cells) out out′ (code.the-variants.Listed (found .count) (eqb (found .more) 0))
   found-portion {out′} {found} e a =
       let none : portionFault file q (startSaid started cells) out ≡ sound = decides ∙ rw e in

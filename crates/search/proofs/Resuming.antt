@@ -1,4 +1,4 @@
--- After a bookmark: what a person's side of it says of the ways through him.
+-- After a bookmark: what a person's side of it says of the ways through that person.
 use mathlib.Core.Path.{_≡_, refl, sym, ap, _∙_}
 use mathlib.Core.Bool.{Bool, true, false, cond}
 use mathlib.Core.List.{List, [], _∷_, _++_, map}

@@ -19,15 +19,16 @@ use Rattle.compact.specs.Compact.{graphOf}
 use Rattle.compact.proofs.Marking.{marked-more}
 use Rattle.pages.specs.Pages.{Page, emits, recordWith}
 use Rattle.pages.proofs.Handing.{emits-append, emits-more, emits-none}
-use Rattle.search.specs.Pages.{page, Room, Handed}
+use Rattle.barriers.specs.Barriers.{Barred}
+use Rattle.barriers.specs.Settling.{Settling, Settled}
+use Rattle.barriers.proofs.Holding.{barred-none, barred-trans, hold-push}
+use Rattle.search.specs.HandingOver.{page, Room, Handed}
 use Rattle.search.specs.Bookmarks.{restOf, onward, Tight, Beside}
-use Rattle.search.specs.Barriers.{Barren, Settling, Settled, Barred}
-use Rattle.search.specs.Walks.{seenOf, Ready, following, handed, next, noted, GoneThrough, Entered}
+use Rattle.search.specs.Entering.{seenOf, Ready, following, handed, next, noted, GoneThrough, Entered, Barren}
 use Rattle.search.specs.Places.{Place}
-use Rattle.search.specs.declared.walk.Found.{Found}
+use Rattle.search.specs.declared.places.Tally.{Tally}
 use Rattle.search.proofs.Writing.{record-end, record-last}
 use Rattle.search.proofs.Resuming.{onward-loose, onward-none, onward-append, onward-end}
-use Rattle.search.proofs.Pruning.{barred-none, barred-trans, barred-settle, hold-push}
 
 -- ---- the chain and the marks
 
@@ -46,10 +47,10 @@ seen-more chain n x h = rw (add-one, getD-set-same chain (suc n) x 0 (omega arit
 put-back : {A : Type 0} (l : List A) (i : ℕ) (x d : A) → getD l i d ≡ d → set (set l i x) i d ≡ l
 put-back l i x d h = set-set l i x d ∙ ap (set l i) (sym h) ∙ set-getD l i d
 
-module _ {rows targets bookmark : List ℕ} {marks : List Bool} {chain out barriers trail : List ℕ} {w : Place} {v : ℕ} {found : Found}
+module _ {rows targets bookmark : List ℕ} {marks : List Bool} {chain out barriers trail : List ℕ} {w : Place} {v : ℕ} {found : Tally}
     (k : Ready rows targets bookmark marks chain out barriers trail w v found) where
   here : Barred (graphOf rows targets) (w .to) (seenOf chain (w .len)) (w .left) barriers barriers trail trail (found .trail) (found .trail)
-  here = barred-none (k .hold) (omega (arith, k .fits, k .trails))
+  here = barred-none (k .hold) (k .fits)
 
   -- v stands before the bookmark's next person
   pub enter-skipped : {s : ℕ} → Beside bookmark w v s → s ≡ 2 → Entered rows targets bookmark marks marks chain chain out out barriers barriers trail trail w v found found
@@ -70,7 +71,7 @@ module _ {rows targets bookmark : List ℕ} {marks : List Bool} {chain out barri
   pub end-room : Room out chain (w .room) (w .len) (w .len) found
   end-room = record { cells = k .room; long = k .long; behind = omega arith; short = omega (arith, k .short, k .some); none = k .none }
 
-  pub enter-end : {out′ : List ℕ} {r : Found} {s : ℕ} → Beside bookmark w v s → s ≡ 0 → v ≡ w .to → Handed out out′ chain (w .to) (w .room) (w .len) v (w .len) found r
+  pub enter-end : {out′ : List ℕ} {r : Tally} {s : ℕ} → Beside bookmark w v s → s ≡ 0 → v ≡ w .to → Handed out out′ chain (w .to) (w .room) (w .len) v (w .len) found r
       → Entered rows targets bookmark marks marks chain chain out out′ barriers barriers trail trail w v found r
   unfolding by emits
   enter-end {s = s} side z e h = record {
@@ -103,7 +104,7 @@ module _ {rows targets bookmark : List ℕ} {marks : List Bool} {chain out barri
       last-room e = record { cells = k .room; long = k .long; behind = omega arith; short = omega (arith, k .short, two); none = k .none }
 
       -- the last hop
-      pub enter-last : {out′ : List ℕ} {r : Found} {s : ℕ} → Beside bookmark w v s → s ≡ 0 → w .left - 1 ≡ 1 → Handed out out′ chain (w .to) (w .room) (w .len) v (w .len + 1) found r
+      pub enter-last : {out′ : List ℕ} {r : Tally} {s : ℕ} → Beside bookmark w v s → s ≡ 0 → w .left - 1 ≡ 1 → Handed out out′ chain (w .to) (w .room) (w .len) v (w .len + 1) found r
           → Entered rows targets bookmark marks marks chain chain out out′ barriers barriers trail trail w v found r
       unfolding by emits
       enter-last {s = s} side z e h =
@@ -144,12 +145,11 @@ module _ {rows targets bookmark : List ℕ} {marks : List Bool} {chain out barri
         room = k .room;
         tight = next-tight side n2;
         hold = rw seen-next (hold-push v (k .hold));
-        trails = k .trails;
         fits = k .fits;
         none = refl;
       }
 
-      module _ {marks′ : List Bool} {chain′ out′ barriers₁ trail₁ : List ℕ} {r : Found} {s : ℕ}
+      module _ {marks′ : List Bool} {chain′ out′ barriers₁ trail₁ : List ℕ} {r : Tally} {s : ℕ}
           (done : GoneThrough rows targets bookmark (set marks v true) marks′ (set chain (w .len + 1) v) chain′ out out′ barriers barriers₁ trail trail₁ (next w s) v (noted found) r) where
         on-barred : Barred (graphOf rows targets) (w .to) (v ∷ seenOf chain (w .len)) (w .left - 1) barriers barriers₁ trail trail₁ (found .trail) (r .trail)
         on-barred = rw seen-next at (done .barred)
@@ -161,29 +161,27 @@ module _ {rows targets bookmark : List ℕ} {marks : List Bool} {chain out barri
             let none = emits-none 1 (w .room) (page (noted found) out) _ (sym (ap (λ (q : Page). q .more) right) ∙ f .none) (sym (ap (λ (q : Page). q .count) right) ∙ f .same) in
             sym (onward-loose s _ _ (f .loose)) ∙ map-eq-nil-iff _ .0 none
 
-        pub enter-settling : {barrier : ℕ} → barrier < 16 → Settling barriers₁ trail₁ v barrier found r
-        enter-settling low = record {
-          raising = record {
-            place = k .place;
-            wide = on-barred .hold .long;
-            old = on-barred .hold .low v;
-            new = low;
-            room = on-barred .trailed .long ∙ k .trails;
-            fits = omega (arith, on-barred .trailed .fits, on-barred .trailed .long, k .trails);
-          };
+        pub enter-settling : Settling barriers₁ trail₁ v (w .left - 1) (found .trail) (r .trail)
+        enter-settling = record {
+          place = k .place;
+          wide = on-barred .hold .long;
+          old = on-barred .hold .low v;
+          new = omega (arith, k .short);
           rise = on-barred .trailed .rise;
+          fits = on-barred .trailed .fits;
+          entries = on-barred .trailed .entries;
         }
 
-        pub enter-left : {barriers₂ trail₂ : List ℕ} {n : ℕ} → Beside bookmark w v s → (s ≡ 2 → ⊥) → Settled barriers₁ barriers₂ trail₁ trail₂ v s (w .left - 1 + 1) found r n
+        pub enter-left : {barriers₂ trail₂ : List ℕ} {barren : Bool} {n : ℕ} → Beside bookmark w v s → (s ≡ 2 → ⊥) → (barren ≡ true → Barren s found r) → Settled barriers₁ barriers₂ trail₁ trail₂ v (w .left - 1) barren (found .trail) (r .trail) n
             → Entered rows targets bookmark marks (set marks′ v false) chain (set chain′ (w .len + 1) 0) out out′ barriers barriers₂ trail trail₂ w v found (record { count = r .count; more = r .more; trail = n })
         unfolding by recordWith
-        enter-left {barriers₂} {trail₂} {n} side n2 settled =
-            let left : suc (w .left - 1) ≡ w .left = omega (arith, k .some) in
+        enter-left side n2 nothing settled =
+            let left : w .left - 1 + 1 ≡ w .left = omega (arith, k .some) in
             record {
               same = ap (λ (m : List Bool). set m v false) (done .same) ∙ put-back marks v true false free;
               whole = ap (λ (c : List ℕ). set c (w .len + 1) 0) (done .whole) ∙ put-back chain (w .len + 1) v 0 (k .blank (w .len + 1) (omega arith));
               right = rw (ne-eqb v (w .to) ne, ← known, free, side .on n2, map-map, k .none) (rw seen-next at (done .right));
-              barred = rw left at (barred-settle {h = w .left - 1} (k .place) (omega (arith, two)) (omega (arith, k .short)) (k .hold) on-barred on-dead (rw (add-one (w .left - 1)) at settled));
+              barred = rw left at (settled .barred (record { some = omega (arith, two); held = k .hold; since = on-barred }) (λ e. on-dead (nothing e)));
             }
 
 -- ---- going through the links
@@ -193,7 +191,7 @@ abbrev pub still : List ℕ → List ℕ → List ℕ → List ℕ → Place →
 still rows targets bookmark chain w i end = onward (w .tight) (restOf bookmark (w .len)) (flatMap (by (w .to) (seenOf chain (w .len)) (ways (graphOf rows targets) (w .to) (w .left - 1))) (slice i end targets))
 
 -- the loop's invariant: what was handed over, with what is still to come, is all
-pub record Turning (rows targets bookmark : List ℕ) (marks₀ : List Bool) (chain₀ out₀ barriers₀ trail₀ : List ℕ) (w : Place) (at end : ℕ) (found₀ : Found) (marks : List Bool) (chain out barriers trail : List ℕ) (i : ℕ) (found : Found) : Type 0 where
+pub record Turning (rows targets bookmark : List ℕ) (marks₀ : List Bool) (chain₀ out₀ barriers₀ trail₀ : List ℕ) (w : Place) (at end : ℕ) (found₀ : Tally) (marks : List Bool) (chain out barriers trail : List ℕ) (i : ℕ) (found : Tally) : Type 0 where
   pub ready : Ready rows targets bookmark marks₀ chain₀ out₀ barriers₀ trail₀ w at found₀
   pub barred : Barred (graphOf rows targets) (w .to) (seenOf chain₀ (w .len)) (w .left) barriers₀ barriers trail₀ trail (found₀ .trail) (found .trail)
   pub same : marks ≡ marks₀
@@ -204,12 +202,12 @@ pub record Turning (rows targets bookmark : List ℕ) (marks₀ : List Bool) (ch
   pub none : found .more ≡ 0
   pub right : handed chain₀ w (page found out) (still rows targets bookmark chain₀ w i end) ≡ handed chain₀ w (page found₀ out₀) (following rows targets bookmark chain₀ w at)
 
-module _ {rows targets bookmark : List ℕ} {marks : List Bool} {chain out barriers trail : List ℕ} {w : Place} {at : ℕ} {found : Found} where
+module _ {rows targets bookmark : List ℕ} {marks : List Bool} {chain out barriers trail : List ℕ} {w : Place} {at : ℕ} {found : Tally} where
   pub go-start : Ready rows targets bookmark marks chain out barriers trail w at found
       → Turning rows targets bookmark marks chain out barriers trail w at (getD rows (at + 1) 0) (noted found) marks chain out barriers trail (getD rows at 0) (noted found)
   go-start k = record {
-    ready = record { graph = k .graph; place = k .place; marked = k .marked; long = k .long; blank = k .blank; some = k .some; short = k .short; room = k .room; tight = k .tight; hold = k .hold; trails = k .trails; fits = k .fits; none = refl };
-    barred = barred-none (k .hold) (omega (arith, k .fits, k .trails));
+    ready = record { graph = k .graph; place = k .place; marked = k .marked; long = k .long; blank = k .blank; some = k .some; short = k .short; room = k .room; tight = k .tight; hold = k .hold; fits = k .fits; none = refl };
+    barred = barred-none (k .hold) (k .fits);
     same = refl;
     whole = refl;
     long = refl;
@@ -220,12 +218,12 @@ module _ {rows targets bookmark : List ℕ} {marks : List Bool} {chain out barri
   }
 
   -- nothing was noted before
-  pub go-noted : {marks′ : List Bool} {chain′ out′ barriers′ trail′ : List ℕ} {found′ : Found} → Ready rows targets bookmark marks chain out barriers trail w at found
+  pub go-noted : {marks′ : List Bool} {chain′ out′ barriers′ trail′ : List ℕ} {found′ : Tally} → Ready rows targets bookmark marks chain out barriers trail w at found
       → GoneThrough rows targets bookmark marks marks′ chain chain′ out out′ barriers barriers′ trail trail′ w at (noted found) found′
       → GoneThrough rows targets bookmark marks marks′ chain chain′ out out′ barriers barriers′ trail trail′ w at found found′
   go-noted k g = record { same = g .same; whole = g .whole; right = rw (k .none) (g .right); barred = g .barred }
 
-  module _ {end : ℕ} {marks′ : List Bool} {chain′ out′ barriers′ trail′ : List ℕ} {i : ℕ} {found′ : Found} (inv : Turning rows targets bookmark marks chain out barriers trail w at end found marks′ chain′ out′ barriers′ trail′ i found′) where
+  module _ {end : ℕ} {marks′ : List Bool} {chain′ out′ barriers′ trail′ : List ℕ} {i : ℕ} {found′ : Tally} (inv : Turning rows targets bookmark marks chain out barriers trail w at end found marks′ chain′ out′ barriers′ trail′ i found′) where
     pub go-enter : i < end → Ready rows targets bookmark marks′ chain′ out′ barriers′ trail′ w (getD targets i 0) found′
     go-enter lt = let k = inv .ready in record {
       graph = k .graph;
@@ -238,12 +236,11 @@ module _ {rows targets bookmark : List ℕ} {marks : List Bool} {chain out barri
       room = omega (arith, k .room, inv .long);
       tight = k .tight;
       hold = rw (inv .whole) (inv .barred .hold);
-      trails = inv .barred .trailed .long ∙ k .trails;
-      fits = omega (arith, inv .barred .trailed .fits, inv .barred .trailed .long, k .trails);
+      fits = inv .barred .trailed .fits;
       none = inv .none;
     }
 
-    module _ {marks″ : List Bool} {chain″ out″ barriers″ trail″ : List ℕ} {found″ : Found} (lt : i < end)
+    module _ {marks″ : List Bool} {chain″ out″ barriers″ trail″ : List ℕ} {found″ : Tally} (lt : i < end)
         (e : Entered rows targets bookmark marks′ marks″ chain′ chain″ out′ out″ barriers′ barriers″ trail′ trail″ w (getD targets i 0) found′ found″) where
       step-right : handed chain w (page found″ out″) (still rows targets bookmark chain w (i + 1) end) ≡ handed chain w (page found out) (following rows targets bookmark chain w at)
       unfolding flatMap

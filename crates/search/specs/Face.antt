@@ -13,7 +13,7 @@ use Rattle.ways.specs.Records.{chainOf, roomOf, written, isRecordIn}
 use Rattle.ways.specs.Fewest as least
 use Rattle.ways.specs.Sizes.{recordSize, mostHops}
 use Rattle.compact.specs.Compact.{persons, graphOf, Compact}
-use Rattle.search.specs.declared.Listed.{Listed}
+use Rattle.pages.specs.declared.HandedOver.{HandedOver}
 
 -- the bookmark's chain; a fresh start (0) has none, whatever the cells say
 abbrev pub markOf : ℕ → List ℕ → List ℕ
@@ -32,7 +32,7 @@ pub record Asked (rows targets fewest : List ℕ) (from to hops started : ℕ) (
   pub marked : (started ≡ 0 → ⊥) → isRecordIn recordSize (listing (graphOf rows targets) from to hops) bookmark ≡ true
 
 -- so many chains of the portion there are, another follows or none, and just their records are written
-pub record Answered (rows targets : List ℕ) (from to hops started : ℕ) (bookmark out out′ : List ℕ) (r : Listed) : Type 0 where
+pub record Answered (rows targets : List ℕ) (from to hops started : ℕ) (bookmark out out′ : List ℕ) (r : HandedOver) : Type 0 where
   pub count : r .count ≡ length (portion (roomOf recordSize (length out)) (markOf started bookmark) (listing (graphOf rows targets) from to hops))
   pub more : r .more ≡ cond (endedAfter (roomOf recordSize (length out)) (markOf started bookmark) (listing (graphOf rows targets) from to hops)) 0 1
   pub cells : out′ ≡ written recordSize (portion (roomOf recordSize (length out)) (markOf started bookmark) (listing (graphOf rows targets) from to hops)) out

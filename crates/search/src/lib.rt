@@ -5,24 +5,21 @@
 // that is proved; the time it saves is measured.
 ghost use Rattle.search.specs.Face.{Asked, Answered};
 
-mod barriers;
 mod bookmark;
+mod leaving;
+mod places;
 mod records;
 mod walk;
 
 use compact::LINKS;
 use compact::PERSONS;
 use compact::STARTS;
-use walk::Ask;
-use walk::Found;
-use walk::Walk;
+use pages::HandedOver;
+use places::Ask;
+use places::Stand;
+use places::TRAIL;
+use places::Tally;
 use ways::RECORD;
-
-// How many chains were written, and whether one more follows (1) or none (0).
-pub struct Listed {
-    pub count: usize,
-    pub more: usize,
-}
 
 // Writes the chains from `from` to `to` of at most `hops` hops, those behind the bookmark where the listing was
 // started, as records to `out` while there is room. `fewest` has each person's fewest hops to `to`.
@@ -36,13 +33,13 @@ pub fn list(
     started: u32,
     bookmark: &[u32],
     out: &mut [u32],
-) -> Listed
+) -> HandedOver
     requires { ⌜ Asked (now rows) (now targets) (now fewest) from to hops started (now bookmark) ⌝ }
     ensures { λ r. ⌜ Answered (now (rows .entry)) (now (targets .entry)) from to hops started (now (bookmark .entry)) (now (out .entry)) (now (out .exit)) r ⌝ }
 {
     let mut marks = [false; PERSONS];
     let mut barriers = *fewest;
-    let mut trail = [0u16; walk::TRAIL];
+    let mut trail = [0u16; TRAIL];
     let mut chain = [0u32; RECORD];
     let at = from as usize;
     chain[1] = from;
@@ -59,15 +56,15 @@ pub fn list(
         bookmark,
         out,
         Ask { to: to, room: room },
-        Walk { len: 1, left: hops },
+        Stand { len: 1, left: hops },
         started,
-        Found {
+        Tally {
             count: 0,
             more: 0,
             trail: 0,
         },
     );
-    Listed {
+    HandedOver {
         count: found.count,
         more: found.more,
     }

@@ -1,35 +1,14 @@
 // The cycle: entering a person, and going through that person's links.
 ghost use Rattle.search.specs.Places.{placeOf};
-ghost use Rattle.search.specs.Walks.{Ready, Entered, GoneThrough};
+ghost use Rattle.search.specs.Entering.{Ready, Entered, GoneThrough};
+use crate::places::Ask;
+use crate::places::Stand;
+use crate::places::TRAIL;
+use crate::places::Tally;
 use compact::LINKS;
 use compact::PERSONS;
 use compact::STARTS;
-use ways::HOPS;
 use ways::RECORD;
-
-// Each entry that stands on the trail has raised its person's barrier, and none passes the hops: never too few.
-pub const TRAIL: usize = HOPS * PERSONS;
-
-// What stays the same all through a search: whom the chains lead to, and how many records there is room for.
-// Numbers go down in small structs of two, and no bool among them: such a struct goes in registers.
-pub struct Ask {
-    pub to: u32,
-    pub room: usize,
-}
-
-// How far the chain has come: the persons in it, and the hops still allowed.
-pub struct Walk {
-    pub len: usize,
-    pub left: usize,
-}
-
-// What was found: so many records written, whether there is one more than there is room for (1), and how many barriers
-// the trail can put back.
-pub struct Found {
-    pub count: usize,
-    pub more: usize,
-    pub trail: usize,
-}
 
 // Tries v as the next person of the chain. What every link asks for stands first, so that it goes in registers.
 // `tight` is 0 once the chain has left the bookmark, and in a fresh start.
@@ -44,14 +23,14 @@ pub fn enter(
     bookmark: &[u32],
     out: &mut [u32],
     ask: Ask,
-    w: Walk,
+    stand: Stand,
     tight: u32,
-    found: Found,
-) -> Found
-    requires { ⌜ Ready (now rows) (now targets) (now bookmark) (now marks) (now chain) (now out) (now barriers) (now trail) (placeOf ask w tight) v found ⌝ }
-    ensures { λ r. ⌜ Entered (now (rows .entry)) (now (targets .entry)) (now (bookmark .entry)) (now (marks .entry)) (now (marks .exit)) (now (chain .entry)) (now (chain .exit)) (now (out .entry)) (now (out .exit)) (now (barriers .entry)) (now (barriers .exit)) (now (trail .entry)) (now (trail .exit)) (placeOf ask w tight) v found r ⌝ }
+    found: Tally,
+) -> Tally
+    requires { ⌜ Ready (now rows) (now targets) (now bookmark) (now marks) (now chain) (now out) (now barriers) (now trail) (placeOf ask stand tight) v found ⌝ }
+    ensures { λ r. ⌜ Entered (now (rows .entry)) (now (targets .entry)) (now (bookmark .entry)) (now (marks .entry)) (now (marks .exit)) (now (chain .entry)) (now (chain .exit)) (now (out .entry)) (now (out .exit)) (now (barriers .entry)) (now (barriers .exit)) (now (trail .entry)) (now (trail .exit)) (placeOf ask stand tight) v found r ⌝ }
 {
-    let side = crate::bookmark::beside(bookmark, ask, w, tight, v);
+    let side = crate::bookmark::beside(bookmark, ask, stand, tight, v);
     if side == 2 {
         return found;
     }
@@ -60,21 +39,21 @@ pub fn enter(
         if side != 0 {
             return found;
         }
-        return crate::records::hand_over(out, *chain, ask, w, v, w.len, found);
+        return crate::records::hand_over(out, *chain, ask, stand, v, stand.len, found);
     }
     let at = v as usize;
     if marks[at] {
         return found;
     }
-    let left = w.left - 1;
+    let left = stand.left - 1;
     if left < barriers[at] as usize {
         return found;
     }
     // The last hop is no search: the barrier says that To is next.
     if left == 1 && side == 0 {
-        return crate::records::hand_over(out, *chain, ask, w, v, w.len + 1, found);
+        return crate::records::hand_over(out, *chain, ask, stand, v, stand.len + 1, found);
     }
-    let len = w.len + 1;
+    let len = stand.len + 1;
     chain[len] = v;
     marks[at] = true;
     let got = go_through(
@@ -87,16 +66,13 @@ pub fn enter(
         trail,
         bookmark,
         out,
-        Ask {
-            to: ask.to,
-            room: ask.room,
-        },
-        Walk {
+        ask,
+        Stand {
             len: len,
             left: left,
         },
         side,
-        Found {
+        Tally {
             count: found.count,
             more: 0,
             trail: found.trail,
@@ -104,8 +80,9 @@ pub fn enter(
     );
     marks[at] = false;
     chain[len] = 0;
-    let height = crate::barriers::settle(barriers, trail, at, side, left + 1, found, got);
-    Found {
+    let barren = crate::leaving::barren(side, found, got);
+    let height = barriers::settle(barriers, trail, at, left, barren, found.trail, got.trail);
+    Tally {
         count: got.count,
         more: got.more,
         trail: height,
@@ -124,16 +101,16 @@ pub fn go_through(
     bookmark: &[u32],
     out: &mut [u32],
     ask: Ask,
-    w: Walk,
+    stand: Stand,
     tight: u32,
-    found: Found,
-) -> Found
-    requires { ⌜ Ready (now rows) (now targets) (now bookmark) (now marks) (now chain) (now out) (now barriers) (now trail) (placeOf ask w tight) at found ⌝ }
-    ensures { λ r. ⌜ GoneThrough (now (rows .entry)) (now (targets .entry)) (now (bookmark .entry)) (now (marks .entry)) (now (marks .exit)) (now (chain .entry)) (now (chain .exit)) (now (out .entry)) (now (out .exit)) (now (barriers .entry)) (now (barriers .exit)) (now (trail .entry)) (now (trail .exit)) (placeOf ask w tight) at found r ⌝ }
+    found: Tally,
+) -> Tally
+    requires { ⌜ Ready (now rows) (now targets) (now bookmark) (now marks) (now chain) (now out) (now barriers) (now trail) (placeOf ask stand tight) at found ⌝ }
+    ensures { λ r. ⌜ GoneThrough (now (rows .entry)) (now (targets .entry)) (now (bookmark .entry)) (now (marks .entry)) (now (marks .exit)) (now (chain .entry)) (now (chain .exit)) (now (out .entry)) (now (out .exit)) (now (barriers .entry)) (now (barriers .exit)) (now (trail .entry)) (now (trail .exit)) (placeOf ask stand tight) at found r ⌝ }
 {
     let mut i = rows[at] as usize;
     let end = rows[at + 1] as usize;
-    let mut got = Found {
+    let mut got = Tally {
         count: found.count,
         more: 0,
         trail: found.trail,
@@ -150,7 +127,7 @@ pub fn go_through(
             bookmark,
             out,
             ask,
-            w,
+            stand,
             tight,
             got,
         );

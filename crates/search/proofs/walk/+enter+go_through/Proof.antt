@@ -15,7 +15,8 @@ use Rattle.search.proofs.walk.+enter+go_through.Lts-enter as enter-lts
 use Rattle.search.proofs.walk.go_through.Reads as go-through
 use Rattle.search.proofs.walk.go_through.Kinds as go-through-kinds
 use Rattle.search.proofs.walk.+enter+go_through.Lts-go_through as go-through-lts
-use Rattle.search.proofs.barriers.settle.Reads as settle-reads
+use Rattle.search.proofs.leaving.barren.Reads as barren-reads
+use Rattle.barriers.proofs.settle.Reads as settle-reads
 use Rattle.search.proofs.bookmark.beside.Reads as beside-reads
 use Rattle.search.proofs.records.hand_over.Reads as hand-over-reads
 use Rattle.search.proofs.walk.+enter+go_through.{statement}
@@ -42,7 +43,7 @@ go-through-below t =
     and 8 go-through-kinds.ps (falls 8 go-through-kinds.ps _<_ μ-go-through t) go-through.Pre
 
 abbrev enter-calls : ℕ → enter-lts.Claims
-enter-calls t = (beside-reads.Asked, beside-reads.Learnt, hand-over-reads.Asked, hand-over-reads.Learnt, go-through-below t, go-through.Post, settle-reads.Asked, settle-reads.Learnt)
+enter-calls t = (beside-reads.Asked, beside-reads.Learnt, hand-over-reads.Asked, hand-over-reads.Learnt, go-through-below t, go-through.Post, barren-reads.Asked, barren-reads.Learnt, settle-reads.Asked, settle-reads.Learnt)
 
 enter-beside-requires : (t : ℕ) → enter-lts.Need-beside-requires (enter-calls t) (enter-at t) enter.Post
 enter-beside-requires t c κs = c .before .before .pre .1 .tight
@@ -133,21 +134,21 @@ enter-element-write-chain-2 t c =
 
 enter-settle-requires : (t : ℕ) → enter-lts.Need-settle-requires (enter-calls t) (enter-at t) enter.Post
 enter-settle-requires t c κs =
-    let at-start = c .before .before .before .before .before .before .before .before .before .before .before .before .before .before .before .before .before .before .before .before .before .before .before in
-    let at-if2 = c .before .before .before .before .before .before .before .before .before .before .before .before .before .before .before .before .before .if2 in
-    let at-if4 = c .before .before .before .before .before .before .before .before .before .before .before .before .before .before .before .if4 in
-    let at-if5 = c .before .before .before .before .before .before .before .before .before .before .before .before .if5 in
-    enter-settling (at-start .pre .1) (at-if2 .left) (at-if4 .left) (at-if5 .left) (c .before .before .before .before .go-through .ensures) (omega (arith, at-start .pre .1 .short))
-
-enter-returns-7 : (t : ℕ) → enter-lts.Need-returns-7 (enter-calls t) (enter-at t) enter.Post
-enter-returns-7 t c =
     let at-start = c .before .before .before .before .before .before .before .before .before .before .before .before .before .before .before .before .before .before .before .before .before .before .before .before in
     let at-if2 = c .before .before .before .before .before .before .before .before .before .before .before .before .before .before .before .before .before .before .if2 in
     let at-if4 = c .before .before .before .before .before .before .before .before .before .before .before .before .before .before .before .before .if4 in
     let at-if5 = c .before .before .before .before .before .before .before .before .before .before .before .before .before .if5 in
-    let at-beside = c .before .before .before .before .before .before .before .before .before .before .before .before .before .before .before .before .before .before .before .before .before .beside in
-    let at-if1 = c .before .before .before .before .before .before .before .before .before .before .before .before .before .before .before .before .before .before .before .before .if1 in
-    enter-left (at-start .pre .1) (at-if2 .left) (at-if4 .left) (at-if5 .left) (c .before .before .before .before .before .go-through .ensures) (at-beside .ensures) (at-if1 .left) (c .settle .ensures)
+    enter-settling (at-start .pre .1) (at-if2 .left) (at-if4 .left) (at-if5 .left) (c .before .before .before .before .before .go-through .ensures)
+
+enter-returns-7 : (t : ℕ) → enter-lts.Need-returns-7 (enter-calls t) (enter-at t) enter.Post
+enter-returns-7 t c =
+    let at-start = c .before .before .before .before .before .before .before .before .before .before .before .before .before .before .before .before .before .before .before .before .before .before .before .before .before in
+    let at-if2 = c .before .before .before .before .before .before .before .before .before .before .before .before .before .before .before .before .before .before .before .if2 in
+    let at-if4 = c .before .before .before .before .before .before .before .before .before .before .before .before .before .before .before .before .before .if4 in
+    let at-if5 = c .before .before .before .before .before .before .before .before .before .before .before .before .before .before .if5 in
+    let at-beside = c .before .before .before .before .before .before .before .before .before .before .before .before .before .before .before .before .before .before .before .before .before .before .beside in
+    let at-if1 = c .before .before .before .before .before .before .before .before .before .before .before .before .before .before .before .before .before .before .before .before .before .if1 in
+    enter-left (at-start .pre .1) (at-if2 .left) (at-if4 .left) (at-if5 .left) (c .before .before .before .before .before .before .go-through .ensures) (at-beside .ensures) (at-if1 .left) (c .before .before .before .barren .ensures) (c .settle .ensures)
 
 abbrev go-through-Inv-loop : go-through-lts.InvT-loop
 go-through-Inv-loop at rows targets marks₀ barriers₀ chain₀ trail₀ bookmark out₀ ask w tight i₀ end got₀ marks barriers chain trail out i got = Turning rows targets bookmark marks₀ chain₀ out₀ barriers₀ trail₀ (placeOf ask w tight) at end got₀ marks chain out barriers trail i got
@@ -210,59 +211,15 @@ go-through-returns-2 : (t : ℕ) → go-through-lts.Need-returns-2 (enter-below 
 go-through-returns-2 t c = go-noted (c .before .before .before .before .before .before .pre .1) (go-end (c .before .loop .inv) (c .loop-test .left))
 
 pub +enter+go-through-spec : {M : Type 1} → statement M
-+enter+go-through-spec = close μ-enter μ-go-through (λ t. enter-lts.spec (enter-calls t)
-    (enter-at t)
-    enter.Post
-    (enter-beside-requires t)
-    (enter-returns t)
-    (enter-returns-2 t)
-    (enter-hand-over-requires t)
-    (λ c. search needs)
-    (enter-returns-3 t)
-    (λ c. search needs)
-    (enter-returns-4 t)
-    (enter-sub-left t)
-    (λ c. search needs)
-    (enter-cast-if5 t)
-    (enter-returns-5 t)
-    (enter-add-hand-over t)
-    (enter-hand-over-requires-2 t)
-    (λ c. search needs)
-    (enter-returns-6 t)
-    (λ c. search needs)
-    (λ c. search needs)
-    (λ c. search needs)
-    (λ c. search needs)
-    (enter-go-through-requires t)
-    (enter-element-write-marks-2 t)
-    (enter-mul-chain-2 t)
-    (enter-element-write-chain-2 t)
-    (λ c. search needs)
-    (enter-settle-requires t)
-    (λ c. search needs)
-    (enter-returns-7 t))
-    λ t. go-through-lts.spec
-    (enter-below t, enter.Post)
-    (go-through-at t)
-    go-through.Post
-    go-through-Inv-loop
-    go-through-μ-loop
-    (λ c. search needs)
-    (λ c. search needs)
-    (go-through-cast-i t)
-    (λ c. search needs)
-    (λ c. search needs)
-    (λ c. search needs)
-    (go-through-cast-end t)
-    (go-through-loop-holds t)
-    (go-through-mul-enter t)
-    (go-through-element-copy-out-enter t)
-    (go-through-cast-enter t)
-    (go-through-enter-requires t)
-    (λ c. search needs)
-    (go-through-returns t)
-    (go-through-add-i t)
-    (λ c. search needs)
-    (go-through-loop-again t)
-    (λ c. search needs)
++enter+go-through-spec = close μ-enter μ-go-through
+    (λ t. enter-lts.spec (enter-calls t) (enter-at t) enter.Post (enter-beside-requires t) (enter-returns t) (enter-returns-2 t)
+    (enter-hand-over-requires t) (λ c. search needs) (enter-returns-3 t) (λ c. search needs) (enter-returns-4 t) (enter-sub-left t)
+    (λ c. search needs) (enter-cast-if5 t) (enter-returns-5 t) (enter-add-hand-over t) (enter-hand-over-requires-2 t) (λ c. search needs)
+    (enter-returns-6 t) (λ c. search needs) (λ c. search needs) (λ c. search needs) (λ c. search needs) (enter-go-through-requires t)
+    (enter-element-write-marks-2 t) (enter-mul-chain-2 t) (enter-element-write-chain-2 t) (λ c κs. search needs) (enter-settle-requires t)
+    (λ c. search needs) (enter-returns-7 t))
+    λ t. go-through-lts.spec (enter-below t, enter.Post) (go-through-at t) go-through.Post go-through-Inv-loop go-through-μ-loop (λ c. search needs)
+    (λ c. search needs) (go-through-cast-i t) (λ c. search needs) (λ c. search needs) (λ c. search needs) (go-through-cast-end t)
+    (go-through-loop-holds t) (go-through-mul-enter t) (go-through-element-copy-out-enter t) (go-through-cast-enter t) (go-through-enter-requires t)
+    (λ c. search needs) (go-through-returns t) (go-through-add-i t) (λ c. search needs) (go-through-loop-again t) (λ c. search needs)
     (go-through-returns-2 t)

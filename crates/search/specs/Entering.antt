@@ -1,4 +1,4 @@
--- What entering a person and going through his links ask, and what they do. Definitions only.
+-- What entering a person, going through that person's links and leaving ask, and what they do. Definitions only.
 use mathlib.Core.Path.{_≡_}
 use mathlib.Core.Bool.{Bool}
 use mathlib.Core.List.{List, [], _∷_, map}
@@ -9,11 +9,11 @@ use Rattle.ways.specs.Sizes.{recordSize}
 use Rattle.compact.specs.Compact.{persons, graphOf, Compact}
 use Rattle.compact.specs.Marks.{Marked}
 use Rattle.pages.specs.Pages.{Page, emits, recordWith}
-use Rattle.search.specs.Pages.{page}
+use Rattle.barriers.specs.Barriers.{Hold, Barred}
+use Rattle.search.specs.HandingOver.{page}
 use Rattle.search.specs.Bookmarks.{restOf, onward, Tight}
-use Rattle.search.specs.Barriers.{Hold, trailRoom, Barred}
 use Rattle.search.specs.Places.{Place}
-use Rattle.search.specs.declared.walk.Found.{Found}
+use Rattle.search.specs.declared.places.Tally.{Tally}
 
 -- the first n persons of the chain, the last first
 unfoldable pub seenOf : List ℕ → ℕ → List ℕ
@@ -22,7 +22,7 @@ seenOf chain (suc n) = getD chain (suc n) 0 ∷ seenOf chain n
 
 -- what both functions ask: a graph, a person, marks of those in the chain, cells for the hops left and zeros in them,
 -- barriers that hold
-pub record Ready (rows targets bookmark : List ℕ) (marks : List Bool) (chain out barriers trail : List ℕ) (w : Place) (at : ℕ) (found : Found) : Type 0 where
+pub record Ready (rows targets bookmark : List ℕ) (marks : List Bool) (chain out barriers trail : List ℕ) (w : Place) (at : ℕ) (found : Tally) : Type 0 where
   pub graph : Compact rows targets
   pub place : at < persons
   pub marked : Marked marks (seenOf chain (w .len))
@@ -33,8 +33,7 @@ pub record Ready (rows targets bookmark : List ℕ) (marks : List Bool) (chain o
   pub room : w .room * recordSize ≤ length out
   pub tight : Tight bookmark w
   pub hold : Hold (graphOf rows targets) (w .to) (seenOf chain (w .len)) barriers
-  pub trails : length trail ≡ trailRoom
-  pub fits : found .trail ≤ trailRoom
+  pub fits : found .trail ≤ length trail
   pub none : found .more ≡ 0
 
 -- the ways on from the person at, who stands last in the chain
@@ -54,19 +53,25 @@ abbrev pub next : Place → ℕ → Place
 next w s = record { to = w .to; tight = s; room = w .room; len = w .len + 1; left = w .left - 1 }
 
 -- what was found so far, and nothing noted
-abbrev pub noted : Found → Found
+abbrev pub noted : Tally → Tally
 noted f = record { count = f .count; more = 0; trail = f .trail }
 
--- going through a person's links hands over the ways on from him, and leaves the marks and the chain as they were
-pub record GoneThrough (rows targets bookmark : List ℕ) (marks marks′ : List Bool) (chain chain′ out out′ barriers barriers′ trail trail′ : List ℕ) (w : Place) (at : ℕ) (found found′ : Found) : Type 0 where
+-- going through a person's links hands over the ways on from there, and leaves the marks and the chain as they were
+pub record GoneThrough (rows targets bookmark : List ℕ) (marks marks′ : List Bool) (chain chain′ out out′ barriers barriers′ trail trail′ : List ℕ) (w : Place) (at : ℕ) (found found′ : Tally) : Type 0 where
   pub same : marks′ ≡ marks
   pub whole : chain′ ≡ chain
   pub right : page found′ out′ ≡ handed chain w (page found out) (following rows targets bookmark chain w at)
   pub barred : Barred (graphOf rows targets) (w .to) (seenOf chain (w .len)) (w .left) barriers barriers′ trail trail′ (found .trail) (found′ .trail)
 
 -- entering v hands over the ways on whose next person is v
-pub record Entered (rows targets bookmark : List ℕ) (marks marks′ : List Bool) (chain chain′ out out′ barriers barriers′ trail trail′ : List ℕ) (w : Place) (v : ℕ) (found found′ : Found) : Type 0 where
+pub record Entered (rows targets bookmark : List ℕ) (marks marks′ : List Bool) (chain chain′ out out′ barriers barriers′ trail trail′ : List ℕ) (w : Place) (v : ℕ) (found found′ : Tally) : Type 0 where
   pub same : marks′ ≡ marks
   pub whole : chain′ ≡ chain
   pub right : page found′ out′ ≡ handed chain w (page found out) (through rows targets bookmark chain w v)
   pub barred : Barred (graphOf rows targets) (w .to) (seenOf chain (w .len)) (w .left) barriers barriers′ trail trail′ (found .trail) (found′ .trail)
+
+-- nothing was found, and nothing skipped
+pub record Barren (side : ℕ) (before after : Tally) : Type 0 where
+  pub loose : side ≡ 0
+  pub none : after .more ≡ 0
+  pub same : after .count ≡ before .count

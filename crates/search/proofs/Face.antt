@@ -3,7 +3,7 @@ use mathlib.Core.Path.{_≡_, refl, sym, ap, subst, _∙_}
 use mathlib.Core.Bool.{Bool, true, false, cond}
 use mathlib.Core.List.{List, [], _∷_, map, Memᴰ·of-map}
 use mathlib.Core.Logic.{⊎-elim}
-use Prim.Native.Nat.{ℕ, suc, _+_, _-_, _/_, _≤_, _<_}
+use Prim.Native.Nat.{ℕ, suc, _+_, _-_, _/_, _≤_}
 use lib.ListN.{length, getD, set, replicate, getD-replicate, List·getD-eq-default}
 use lib.Seq.{getD-set-other, slice, take-append-seam}
 use lib.Dec.{ltb, leb}
@@ -14,7 +14,6 @@ use Rattle.ways.specs.Graph.{Graph, _∈_}
 use Rattle.ways.specs.Listing.{ways, listing}
 use Rattle.ways.specs.Portions.{after}
 use Rattle.ways.specs.Records.{recordOf, chainOf, Fits, isRecordIn}
-use Rattle.ways.specs.Fewest as least
 use Rattle.ways.specs.Sizes.{recordSize, mostHops}
 use Rattle.ways.proofs.Cases.{same-or-not, lt-or-le}
 use Rattle.ways.proofs.Way.{Way, way-from}
@@ -22,36 +21,19 @@ use Rattle.ways.proofs.Listed.{last-cons, last-at, way-last}
 use Rattle.ways.proofs.After.{after-all, after-from, after-listing}
 use Rattle.ways.proofs.Portions.{real-chains}
 use Rattle.ways.proofs.Records.{way-some, way-few, listing-fits, chainOf-recordOf, length-recordOf, isRecordIn-true}
-use Rattle.ways.proofs.Reach.{round-zero}
-use Rattle.ways.proofs.Fewest.{fewest-cap, fewest-in, fewest-near, none-fewest}
 use Rattle.compact.specs.Compact.{persons, graphOf}
 use Rattle.compact.proofs.Marking.{nobody, marked-more}
 use Rattle.pages.specs.Pages.{Page, emits, blank}
 use Rattle.pages.proofs.Recording.{records-first}
 use Rattle.pages.proofs.Handing.{emits-written}
+use Rattle.barriers.proofs.Holding.{fewest-hold}
 use Rattle.search.specs.Face.{markOf, Asked, Answered}
-use Rattle.search.specs.Pages.{page}
+use Rattle.search.specs.HandingOver.{page}
 use Rattle.search.specs.Bookmarks.{restOf, onward, Beginning}
-use Rattle.search.specs.Barriers.{Hold, trailRoom}
-use Rattle.search.specs.Walks.{seenOf, Ready, GoneThrough}
+use Rattle.search.specs.Entering.{seenOf, Ready, GoneThrough}
 use Rattle.search.specs.Places.{Place}
-use Rattle.search.specs.declared.walk.Found.{Found}
+use Rattle.search.specs.declared.places.Tally.{Tally}
 use Rattle.search.proofs.Resuming.{onward-loose, onward-tight}
-
--- ---- the fewest hops are barriers that hold, whoever was seen
-
-module _ (g : Graph) (t k : ℕ) (fewest : List ℕ) (wide : length fewest ≡ persons) (exact : (p : ℕ) → p < persons → getD fewest p 0 ≡ least.fewest g t k p) where
-  pub fewest-hold : 1 ≤ k → k ≤ mostHops → (seen : List ℕ) → Hold g t seen fewest
-  fewest-hold one few seen = record {
-    long = wide;
-    low = λ v. ⊎-elim (λ l. omega (arith, exact v l, fewest-cap g t k v)) (λ l. omega (arith, none v l)) (lt-or-le v persons);
-    sound = λ v j lt. ⊎-elim (λ l. none-fewest g t k j v (v ∷ seen) (rw (exact v l) at lt)) (λ l. absurd (omega (arith, none v l, lt))) (lt-or-le v persons);
-    far = λ v l n. ⊎-elim (λ z. absurd (n (round-zero g t v .0 (fewest-in g t k 0 v (omega arith) (omega (arith, exact v l, z)))))) (λ z. z) (lt-or-le (getD fewest v 0) 1);
-    near = λ v l n m. fewest-near g t k v one n (omega (arith, exact v l, m));
-  }
-    where
-      none : (v : ℕ) → persons ≤ v → getD fewest v 0 ≡ 0
-      none v l = List·getD-eq-default fewest 0 {n = v} (omega (arith, wide))
 
 -- ---- the bookmark
 
@@ -113,13 +95,13 @@ zeros i = ⊎-elim (λ l. getD-replicate recordSize i 0 0 l) (λ l. List·getD-e
 abbrev pub started-at : ℕ → ℕ → ℕ → ℕ → Place
 started-at to started room hops = record { to = to; tight = started; room = room; len = 1; left = hops }
 
-abbrev pub nothing : Found
+abbrev pub nothing : Tally
 nothing = record { count = 0; more = 0; trail = 0 }
 
 module _ {rows targets fewest : List ℕ} {from to hops started : ℕ} {bookmark : List ℕ} (k : Asked rows targets fewest from to hops started bookmark) where
-  pub list-ready : (out trail : List ℕ) → length trail ≡ trailRoom
+  pub list-ready : (out trail : List ℕ)
       → Ready rows targets bookmark (set (replicate persons false) from true) (set blank 1 from) out fewest trail (started-at to started (length out / recordSize) hops) from nothing
-  list-ready out trail long = record {
+  list-ready out trail = record {
     graph = k .graph;
     place = k .source;
     marked = rw (seen-first from) (marked-more from (k .source) nobody);
@@ -129,8 +111,7 @@ module _ {rows targets fewest : List ℕ} {from to hops started : ℕ} {bookmark
     short = omega (arith, k .few);
     room = omega arith;
     tight = record { begins = λ n. marks-begin (k .few) (marks (graphOf rows targets) from to hops bookmark (k .marked n)) (started-at to started (length out / recordSize) hops) refl refl };
-    hold = rw (seen-first from) (fewest-hold (graphOf rows targets) to hops fewest (k .wide) (k .exact) (k .some) (k .few) (from ∷ []));
-    trails = long;
+    hold = rw (seen-first from) (fewest-hold (graphOf rows targets) to hops fewest (k .wide) (k .exact) (k .some) (omega (arith, k .few)) (from ∷ []));
     fits = omega arith;
     none = refl;
   }
@@ -155,7 +136,7 @@ behind {rows} {targets} {from = from} {to} {hops} {started} {bookmark} k =
 ended-more : (d n : ℕ) → _≡_ {A = ℕ} (cond (ltb d n) 1 0) (cond (leb n d) 0 1)
 ended-more d n = ⊎-elim (λ l. rw (lt-ltb d n l, lt-leb n d l)) (λ l. rw (le-ltb d n l, le-leb n d l)) (lt-or-le d n)
 
-pub list-answered : {rows targets fewest : List ℕ} {from to hops started : ℕ} {bookmark : List ℕ} {ms ms′ : List Bool} {cs′ out out′ bs bs′ ts ts′ : List ℕ} {found : Found} → Asked rows targets fewest from to hops started bookmark
+pub list-answered : {rows targets fewest : List ℕ} {from to hops started : ℕ} {bookmark : List ℕ} {ms ms′ : List Bool} {cs′ out out′ bs bs′ ts ts′ : List ℕ} {found : Tally} → Asked rows targets fewest from to hops started bookmark
     → GoneThrough rows targets bookmark ms ms′ (set blank 1 from) cs′ out out′ bs bs′ ts ts′ (started-at to started (length out / recordSize) hops) from nothing found
     → Answered rows targets from to hops started bookmark out out′ (record { count = found .count; more = found .more })
 list-answered {rows} {targets} {from = from} {to} {hops} {started} {bookmark} {out = out} {out′} {found = found} k s =
