@@ -5,16 +5,17 @@ use mathlib.Core.List.{List}
 use Prim.Native.Nat.{ℕ, suc, _+_, _≤_, _<_}
 use lib.ListN.{length, getD}
 use lib.Seq.{slice}
+use Rattle.ways.specs.Sizes.{mostPersons, mostLinks}
 use Rattle.ways.specs.Graph.{Graph}
 use Rattle.ways.specs.Order.{Rising}
 
 -- as many persons as a file can have
 abbrev pub persons : ℕ
-persons = 1024
+persons = mostPersons
 
 -- as many links as a file can have
 abbrev pub links : ℕ
-links = 4096
+links = mostLinks
 
 -- the persons that p has admitted links to
 abbrev pub graphOf : List ℕ → List ℕ → Graph

@@ -4,11 +4,14 @@
 // are read as a function from a person to persons (`graphOf`), and when they are well formed (`Compact`).
 // There is no code here: `question` fills the arrays, `distance`, `search`, `portion` and `join` read them.
 
+use ways::LINKS as MOST_LINKS;
+use ways::PERSONS as MOST_PERSONS;
+
 // As many persons as a file can have.
-pub const PERSONS: usize = 1024;
+pub const PERSONS: usize = MOST_PERSONS;
 
 // One row start for each person, and the end of the last row.
-pub const STARTS: usize = 1025;
+pub const STARTS: usize = PERSONS + 1;
 
 // As many links as a file can have.
-pub const LINKS: usize = 4096;
+pub const LINKS: usize = MOST_LINKS;

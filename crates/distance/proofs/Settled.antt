@@ -1,4 +1,4 @@
--- The rounds of the distance table: after the round of h hops everybody of at most h has his number, and the others are unknown.
+-- The rounds of the distance table: after the round of h hops everybody of at most h has their number, and the others are unknown.
 use mathlib.Core.Path.{_≡_, refl, sym, ap, subst, _∙_}
 use mathlib.Core.Logic.{_≢_}
 use mathlib.Core.Bool.{Bool, true, false, cond, false≢true}

@@ -3,18 +3,8 @@ use mathlib.Core.Path.{_≡_}
 use mathlib.Core.List.{List}
 use Prim.Native.Nat.{ℕ, _≤_, _<_}
 use lib.ListN.{length}
-use Rattle.linkfile.specs.Format.{personCount}
-use Rattle.refusals.specs.Faults.{sound}
-use Rattle.linkfile.specs.Checked.{fileFault}
 use Rattle.ways.specs.Sizes.{mostHops}
 use Rattle.compact.specs.Compact.{persons, Compact}
-use Rattle.question.specs.Asked.{personFault}
-use Rattle.question.specs.declared.Question.{Question}
-
--- a file, a question and a person that have passed
-pub record Passes (file : List ℕ) (q : Question) (person : ℕ) : Type 0 where
-  pub faultless : fileFault file ≡ sound
-  pub asked : personFault (personCount file) q person ≡ sound
 
 -- a compact graph, an end person and a bound on the hops
 pub record Readable (starts targets : List ℕ) (to k : ℕ) : Type 0 where

@@ -45,7 +45,7 @@ fn round(starts: &[u16], targets: &[u16], most: u8, hops: u8, cells: &mut [u8]) 
 // The fewest hops of each of 1,024 persons to To, `most` at most, else one more, which is unknown: all are so at the start. It stops as
 // soon as a round adds nobody. The table is handed back by value: that copies 1,024 bytes, which is little beside a single round, and
 // its callers then know each cell from the promise alone.
-pub fn distances(starts: &[u16], targets: &[u16], to: usize, most: u8) -> [u8; 1024]
+pub fn distances(starts: &[u16], targets: &[u16], to: usize, most: u8) -> [u8; PERSONS]
     requires { ⌜ Readable (now starts) (now targets) to most ⌝ }
     ensures { λ r. ⌜ Table (now (starts .entry)) (now (targets .entry)) to most r ⌝ }
 {

@@ -1,18 +1,17 @@
 -- The class and the feed of a link: what the tests of admission rest on.
-use mathlib.Core.Path.{_≡_, ap, _∙_}
+use mathlib.Core.Path.{_≡_}
 use mathlib.Core.Logic.{inl, inr}
 use mathlib.Core.Bool.{Bool, true, false, _||_, cond}
 use mathlib.Core.List.{List}
-use Prim.Native.Nat.{ℕ, _+_, _*_, _≤_, _<_}
+use Prim.Native.Nat.{ℕ, _+_, _≤_, _<_}
 use lib.ListN.{length}
 use lib.Dec.{eqb}
 use native.Mathlib.Omega.{arith}
-use Rattle.linkfile.specs.Numbers.{within, number16, number32}
-use Rattle.linkfile.specs.Format.{linksStart, feedAt, target}
-use Rattle.linkfile.specs.Inside.{Laid}
-use Rattle.linkfile.specs.Kinds.{class, unknown, classOf}
-use Rattle.linkfile.specs.declared.Counts.{Counts}
-use Rattle.linkfile.proofs.Counted.{place-is}
+use Rattle.ways.specs.Sizes.{mostFeeds}
+use Rattle.format.specs.Numbers.{within}
+use Rattle.format.specs.Format.{feedAt, feedSize, feedIndex}
+use Rattle.format.specs.Kinds.{class, unknown, classOf}
+use Rattle.format.specs.declared.layout.Counts.{Counts}
 use Rattle.question.specs.Inside.{OneClass, Fed}
 
 -- a known kind has one of the four classes
@@ -35,13 +34,5 @@ last-class (inr (inr (inl e))) one two four = absurd (four e)
 last-class (inr (inr (inr e))) one two four = e
 
 -- where the feed of a link stands
-pub fed-lies : {file : List ℕ} {counts : Counts} {link at feed : ℕ} → Fed file counts link → at ≡ linksStart (counts .persons) (counts .feeds) + 12 * link → feed ≡ number16 file (at + 8)
-    → (feed < 16) × (feedAt feed + 4 ≤ length file)
-fed-lies {file} {counts} {link} {at} {feed} f place is =
-    let here = is ∙ ap (λ (a : ℕ). number16 file (a + 8)) (place-is link (f .laid) place) in
-    let low : feed < counts .feeds = omega (arith, f .fed, f .laid .feeds) in
-    (omega (arith, f .laid), omega (arith, f .laid))
-
--- whom a link leads to, by its place
-pub target-is : {file : List ℕ} {counts : Counts} (link : ℕ) {at v : ℕ} → Laid file counts → at ≡ linksStart (counts .persons) (counts .feeds) + 12 * link → v ≡ number32 file at → v ≡ target file link
-target-is {file} link laid place is = is ∙ ap (number32 file) (place-is link laid place)
+pub fed-lies : {file : List ℕ} {counts : Counts} {link : ℕ} → Fed file counts link → (feedIndex file link < mostFeeds) × (feedAt (feedIndex file link) + feedSize ≤ length file)
+fed-lies {file} {counts} {link} f = let low : feedIndex file link < counts .feeds = omega (arith, f .fed, f .laid .feeds) in (omega (arith, f .laid), omega (arith, f .laid))

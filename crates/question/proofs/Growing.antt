@@ -10,13 +10,13 @@ use native.Mathlib.Decide.{ℕ-discrete, decLt}
 use native.Mathlib.Omega.{arith}
 use Rattle.ways.specs.Graph.{keep}
 use Rattle.ways.specs.Order.{Rising}
-use Rattle.linkfile.specs.Format.{personCount, linkCount, feedCount, row, target}
+use Rattle.format.specs.Format.{personCount, linkCount, feedCount, countsIn, row, target, linkIn}
 use Rattle.refusals.specs.Faults.{sound}
-use Rattle.linkfile.specs.Checked.{fileFault}
-use Rattle.linkfile.specs.Inside.{Laid}
-use Rattle.linkfile.specs.declared.Counts.{Counts}
-use Rattle.linkfile.proofs.Passed.{Passed, sound-rules, Lies, row-lies}
-use Rattle.linkfile.proofs.Linked.{Link, passed-link}
+use Rattle.checking.specs.Checked.{fileFault, beforeIn}
+use Rattle.format.specs.Laid.{Laid}
+use Rattle.format.specs.declared.layout.Counts.{Counts}
+use Rattle.checking.proofs.Passed.{Passed, sound-rules, Lies, row-lies}
+use Rattle.checking.proofs.Linked.{Ruled, passed-link}
 use Rattle.compact.specs.Compact.{persons, graphOf, links as mostLinks}
 use Rattle.question.specs.Admission.{admitted, numbersFrom, next}
 use Rattle.question.specs.Inside.{Fed}
@@ -66,7 +66,7 @@ module _ {file : List ℕ} {counts : Counts} {person start : ℕ} {before : List
 
     module _ {link end : ℕ} {targets : List ℕ} (i : Appending file q person start stop before link end targets) where
       module _ (l : link < stop) where
-        pub appending-link : Link file person link
+        pub appending-link : Ruled (countsIn file) person (beforeIn file person link) (linkIn file link)
         appending-link = passed-link passed person link (omega (arith, a .laid .persons)) (i .from) (omega arith)
 
         pub appending-fed : Fed file counts link
@@ -140,7 +140,7 @@ pub record Filling (file : List ℕ) (counts : Counts) (q : Question) (person en
   pub ends : (p : ℕ) → p < person → getD starts (p + 1) 0 ≤ end
   pub graph : (p : ℕ) → p < person → graphOf starts targets p ≡ next file q p
 
-pub filling-starts : {file : List ℕ} {counts : Counts} {q : Question} {starts targets : List ℕ} → Fillable file counts starts targets → Filling file counts q 0 0 (set starts 0 0) targets
+pub filling-starts : {file : List ℕ} {counts : Counts} {q : Question} {starts targets : List ℕ} → Fillable file starts targets → Filling file counts q 0 0 (set starts 0 0) targets
 filling-starts {starts = starts} f = record {
   to = omega arith;
   rows = length-set starts 0 0 ∙ f .rows;
@@ -240,9 +240,8 @@ module _ {file : List ℕ} {counts : Counts} {q : Question} {person end : ℕ} {
           go (no n) = none p (omega arith)
 
 -- rooms of zeros are room for the graph of any file that passed
-pub zeros-fillable : {file : List ℕ} {counts : Counts} → Laid file counts → fileFault file ≡ sound → Fillable file counts (replicate (suc persons) 0) (replicate mostLinks 0)
-zeros-fillable laid faultless = record {
-  laid = laid;
+pub zeros-fillable : {file : List ℕ} → fileFault file ≡ sound → Fillable file (replicate (suc persons) 0) (replicate mostLinks 0)
+zeros-fillable faultless = record {
   faultless = faultless;
   rows = length-replicate {A = ℕ} (suc persons) 0;
   links = length-replicate {A = ℕ} mostLinks 0;

@@ -12,9 +12,9 @@ use Rattle.ways.specs.Graph.{_∈_, keep}
 use Rattle.ways.specs.Order.{Rising}
 use Rattle.ways.proofs.Members.{keep-from, keep-in}
 use Rattle.ways.proofs.Rising.{Steps, steps-rising, rising-keep, rising-by}
-use Rattle.linkfile.specs.Format.{personCount, row, target}
-use Rattle.linkfile.proofs.Passed.{Passed}
-use Rattle.linkfile.proofs.Linked.{passed-link}
+use Rattle.format.specs.Format.{personCount, row, target}
+use Rattle.checking.proofs.Passed.{Passed}
+use Rattle.checking.proofs.Linked.{passed-link, passed-rises}
 use Rattle.question.specs.Admission.{admitted, numbersFrom, owned, next, AdmittedLink}
 use Rattle.question.specs.declared.Question.{Question}
 
@@ -102,7 +102,7 @@ module _ {file : List ℕ} {n m f : ℕ} (p : Passed file n m f) (q : Question) 
       steps : person < n → (l : ℕ) → row file person ≤ l → suc l < row file person + (row file (person + 1) - row file person) → target file l < target file (suc l)
       steps h l low high =
           let back : suc l - 1 ≡ l = omega arith in
-          rw back at (passed-link p person (suc l) h (omega arith) (omega arith) .rises (λ e. omega arith))
+          rw back at (passed-rises p person (suc l) h (omega arith) (omega arith) (λ e. omega arith))
 
       go : (t : Bool) → ltb person (personCount file) ≡ t → Rising _<_ (cond t (led file q (row file person) (row file (person + 1) - row file person)) [])
       go true e = kept-rising (target file) (admitted file q) (row file person) (row file (person + 1) - row file person) (steps (omega (arith, p .persons, ltb-true person (personCount file) e)))

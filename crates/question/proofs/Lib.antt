@@ -1,5 +1,6 @@
 -- Laws of this room: what a question that passes is, whom admitted links lead to, and how the graph grows.
 pub mod Refused
+pub mod Answerable
 pub mod Numbered
 pub mod Classed
 pub mod Leads

@@ -4,15 +4,15 @@ use mathlib.Core.List.{List}
 use Prim.Native.Nat.{ℕ}
 use native.Mathlib.Omega.{arith}
 use lib.Dec.{eqb, ltb}
-use Rattle.linkfile.specs.Numbers.{within}
-use Rattle.linkfile.specs.Format.{personCount}
-use Rattle.refusals.specs.Faults.{Fault, sound, unless, firstOf, Numbered}
-use Rattle.linkfile.specs.Checked.{fileFault}
-use Rattle.linkfile.proofs.Numbered.{file-numbered}
+use Rattle.format.specs.Numbers.{within}
+use Rattle.format.specs.Format.{personCount}
+use Rattle.refusals.specs.Faults.{Fault, sound, unless, Numbered}
+use Rattle.checking.specs.Checked.{fileFault}
+use Rattle.checking.proofs.Numbered.{file-numbered}
 use Rattle.refusals.proofs.Numbered.{numbered-unless, numbered-first, numbered-more}
 use Rattle.ways.specs.Sizes.{mostHops}
 use Rattle.question.specs.declared.Question.{Question}
-use Rattle.question.specs.Asked.{daysFit, restFault, questionFault, personFault, askedFault}
+use Rattle.question.specs.Asked.{daysFit, restFault, questionFault, personFault, askedFault, askedOfFault}
 
 rest-numbered : (q : Question) → Numbered 15 (restFault q)
 unfolding restFault
@@ -43,7 +43,7 @@ unfolding questionFault
 asked-numbered file q =
     numbered-first 15 (fileFault file) (questionFault (personCount file) q) (numbered-more 9 15 (omega arith) (fileFault file) (file-numbered file)) (ends-numbered (personCount file) q (restFault q) (rest-numbered q))
 
-pub person-numbered : (file : List ℕ) (q : Question) (person : ℕ) → Numbered 15 (firstOf (fileFault file) (personFault (personCount file) q person))
+pub person-numbered : (file : List ℕ) (q : Question) (person : ℕ) → Numbered 15 (askedOfFault file q person)
 unfolding personFault
 person-numbered file q person =
     numbered-first 15 (fileFault file) (personFault (personCount file) q person) (numbered-more 9 15 (omega arith) (fileFault file) (file-numbered file))

@@ -1,20 +1,17 @@
 -- What the refusals of a question say: the ends decide before all else, and of a question that passed its numbers are known.
-use mathlib.Core.Path.{_≡_, refl, sym, ap, _∙_}
+use mathlib.Core.Path.{_≡_, refl, sym, _∙_}
 use mathlib.Core.Bool.{Bool, true, false, not}
 use mathlib.Core.List.{List}
 use Prim.Native.Nat.{ℕ, _<_, _≤_}
 use lib.Dec.{eqb, ltb}
 use native.Mathlib.Omega.{arith}
 use borrow.Author.Tests.{ltb-true, eqb-false, not-true}
-use Rattle.linkfile.specs.Numbers.{within}
-use Rattle.linkfile.specs.Format.{personCount, linkCount, feedCount}
-use Rattle.refusals.specs.Faults.{Fault, sound, unless, firstOf, faultSaid}
-use Rattle.linkfile.specs.Checked.{fileFault}
-use Rattle.refusals.specs.declared.Fault as code
-use Rattle.refusals.proofs.Faults.{first-both, unless-none}
-use Rattle.linkfile.proofs.Counted.{within-facts}
-use Rattle.linkfile.proofs.Passed.{Passed, sound-rules}
 use Rattle.ways.specs.Sizes.{mostHops}
+use Rattle.refusals.specs.Faults.{Fault, sound, unless, firstOf, faultSaid}
+use Rattle.refusals.specs.declared.Fault as code
+use Rattle.refusals.proofs.Faults.{unless-none}
+use Rattle.format.specs.Numbers.{within}
+use Rattle.format.proofs.Counted.{within-facts}
 use Rattle.question.specs.Asked.{endsFault, restFault, questionFault, personFault, Asks}
 use Rattle.question.specs.declared.Question.{Question}
 
@@ -63,13 +60,6 @@ person-proper n q person e =
     let to = unless-none (ltb (q .to) n) 10 1 (from .1) in
     let extra = unless-none (ltb person n) 10 2 (to .1) in
     (proper n q (from .0) (to .0) (extra .1), ltb-true person n (extra .0))
-
--- nothing found: the file passed, and so did the question
-pub asked-passed : {file : List ℕ} {q : Question} {answer : code.Fault} → Asks file q answer → answer ≡ code.the-variants.Sound
-    → Passed file (personCount file) (linkCount file) (feedCount file) × Proper (personCount file) q
-asked-passed {file} {q} asks is =
-    let both = first-both (fileFault file) (questionFault (personCount file) q) (sym asks ∙ ap faultSaid is) in
-    (sound-rules file (both .0), question-proper (personCount file) q (both .1))
 
 -- one result only: any two answers that the promise of `asked` allows are equal
 fault-said : (a b : code.Fault) → faultSaid a ≡ faultSaid b → a ≡ b

@@ -4,9 +4,10 @@ use mathlib.Core.List.{List, [], _∷_, map}
 use mathlib.Core.Bool.{Bool, true, false, _&&_, _||_, cond}
 use Prim.Native.Nat.{ℕ, zero, suc, _+_, _-_, _/_, _%_, _≤_, _<_}
 use lib.Dec.{eqb, ltb}
-use Rattle.linkfile.specs.Numbers.{within}
-use Rattle.linkfile.specs.Format.{personCount, meaning, row, target, day, feedIndex, kind}
-use Rattle.linkfile.specs.Kinds.{Class, class, unknown, classOf}
+use Rattle.format.specs.Numbers.{within}
+use Rattle.format.specs.Format.{personCount, meaning, row, target, kind, linkIn}
+use Rattle.format.specs.Kinds.{Class, class, unknown, classOf}
+use Rattle.format.specs.declared.links.Link.{Link}
 use Rattle.ways.specs.Graph.{Graph, keep}
 use Rattle.question.specs.declared.Question.{Question}
 
@@ -16,13 +17,12 @@ inSum (class c) sum = eqb (sum / c % 2) 1
 inSum unknown sum = false
 
 -- "it is either undated or has a day from first to last, both included, from a feed whose meaning is the question's"
-unfoldable pub dayAdmitted : List ℕ → Question → ℕ → Bool
-dayAdmitted file q link =
-    eqb (day file link) 0 || (within (q .first) (q .last) (day file link) && eqb (meaning file (feedIndex file link)) (q .meaning))
+unfoldable pub dayAdmitted : List ℕ → Question → Link → Bool
+dayAdmitted file q link = eqb (link .day) 0 || (within (q .first) (q .last) (link .day) && eqb (meaning file (link .feed)) (q .meaning))
 
 -- "A link is admitted if its class is in the sum and" its day is
 unfoldable pub admitted : List ℕ → Question → ℕ → Bool
-admitted file q link = inSum (classOf (kind file link)) (q .classes) && dayAdmitted file q link
+admitted file q link = inSum (classOf (kind file link)) (q .classes) && dayAdmitted file q (linkIn file link)
 
 -- so many numbers from one on, rising
 unfoldable pub numbersFrom : ℕ → ℕ → List ℕ

@@ -5,10 +5,11 @@ use mathlib.Core.List.{List}
 use mathlib.Core.Bool.{Bool, not, _&&_}
 use Prim.Native.Nat.{ℕ}
 use lib.Dec.{eqb, leb, ltb}
-use Rattle.linkfile.specs.Numbers.{within}
-use Rattle.linkfile.specs.Format.{personCount}
+use Rattle.format.specs.Numbers.{within}
 use Rattle.refusals.specs.Faults.{Fault, sound, unless, firstOf, faultSaid}
-use Rattle.linkfile.specs.Checked.{lastDay, fileFault}
+use Rattle.refusals.specs.Answers.{roomFault}
+use Rattle.format.specs.Format.{personCount, lastDay}
+use Rattle.checking.specs.Checked.{fileFault}
 use Rattle.refusals.specs.declared.Fault as code
 use Rattle.ways.specs.Sizes.{mostHops}
 use Rattle.question.specs.declared.Question.{Question}
@@ -43,3 +44,11 @@ askedFault file q = firstOf (fileFault file) (questionFault (personCount file) q
 -- asked: the answer is the first fault of the file and the question
 abbrev pub Asks : List ℕ → Question → code.Fault → Type 0
 Asks file q answer = faultSaid answer ≡ askedFault file q
+
+-- the same for a question that names one person more
+abbrev pub askedOfFault : List ℕ → Question → ℕ → Fault
+askedOfFault file q person = firstOf (fileFault file) (personFault (personCount file) q person)
+
+-- the same for so many output cells: 16 comes after the question's refusals
+abbrev pub askedRoomFault : List ℕ → Question → ℕ → Fault
+askedRoomFault file q cells = firstOf (askedFault file q) (roomFault cells sound)

@@ -3,11 +3,11 @@ use mathlib.Core.Path.{_≡_}
 use mathlib.Core.List.{List, _++_}
 use Prim.Native.Nat.{ℕ, suc, _+_, _≤_, _<_}
 use lib.ListN.{length, getD, take}
-use Rattle.linkfile.specs.Format.{personCount, row}
+use Rattle.format.specs.Format.{personCount, row}
 use Rattle.refusals.specs.Faults.{sound}
-use Rattle.linkfile.specs.Checked.{fileFault}
-use Rattle.linkfile.specs.Inside.{Laid}
-use Rattle.linkfile.specs.declared.Counts.{Counts}
+use Rattle.checking.specs.Checked.{fileFault}
+use Rattle.format.specs.Laid.{Laid}
+use Rattle.format.specs.declared.layout.Counts.{Counts}
 use Rattle.compact.specs.Compact.{persons, links as mostLinks, graphOf, Compact}
 use Rattle.question.specs.Admission.{next}
 use Rattle.question.specs.declared.Question.{Question}
@@ -22,8 +22,7 @@ abbrev pub People : List ℕ → Type 0
 People targets = (i : ℕ) → i < length targets → getD targets i 0 < persons
 
 -- a file that passed, and room for its graph
-pub record Fillable (file : List ℕ) (counts : Counts) (starts targets : List ℕ) : Type 0 where
-  pub laid : Laid file counts
+pub record Fillable (file : List ℕ) (starts targets : List ℕ) : Type 0 where
   pub faultless : fileFault file ≡ sound
   pub rows : length starts ≡ suc persons
   pub links : length targets ≡ mostLinks

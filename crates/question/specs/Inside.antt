@@ -3,9 +3,9 @@ use mathlib.Core.Path.{_≡_}
 use mathlib.Core.Logic.{_⊎_}
 use mathlib.Core.List.{List}
 use Prim.Native.Nat.{ℕ, _<_}
-use Rattle.linkfile.specs.Format.{feedIndex, feedCount}
-use Rattle.linkfile.specs.Inside.{Laid}
-use Rattle.linkfile.specs.declared.Counts.{Counts}
+use Rattle.format.specs.Format.{feedIndex, feedCount}
+use Rattle.format.specs.Laid.{Laid}
+use Rattle.format.specs.declared.layout.Counts.{Counts}
 
 -- the classes are 1, 2, 4 and 8
 abbrev pub OneClass : ℕ → Type 0

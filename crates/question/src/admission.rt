@@ -1,14 +1,18 @@
 // Which links a question admits.
 use crate::Question;
-use linkfile::Class;
-use linkfile::Counts;
-use linkfile::feeds;
-use linkfile::kinds;
-use linkfile::links;
+use format::feeds;
+use format::kinds;
+use format::kinds::Class;
+use format::layout::Counts;
+use format::links;
+use format::links::Link;
 ghost use mathlib.Core.Path.{_≡_};
-ghost use Prim.Native.Nat.{_/_, _%_};
+ghost use Prim.Native.Nat.{_+_, _/_, _%_, _≤_, _<_};
 ghost use lib.Dec.{eqb};
-ghost use Rattle.linkfile.specs.Kinds.{classOf};
+ghost use lib.ListN.{length};
+ghost use Rattle.ways.specs.Sizes.{mostFeeds};
+ghost use Rattle.format.specs.Format.{feedAt, feedSize};
+ghost use Rattle.format.specs.Kinds.{classOf};
 ghost use Rattle.question.specs.Admission.{inSum, dayAdmitted, admitted};
 ghost use Rattle.question.specs.Inside.{OneClass, Fed};
 
@@ -37,34 +41,24 @@ fn in_sum(kind: u8, classes: u32) -> bool
 }
 
 // Whether a link is undated, or has a day of the window from a feed whose days mean what the question asks.
-fn day_admitted(file: &[u8], counts: Counts, question: Question, link: usize) -> bool
-    requires { ⌜ Fed (now file) counts link ⌝ }
+fn day_admitted(file: &[u8], question: Question, link: Link) -> bool
+    requires { ⌜ (link .feed < mostFeeds) × (feedAt (link .feed) + feedSize ≤ length (now file)) ⌝ }
     ensures { λ r. ⌜ r ≡ dayAdmitted (now (file .entry)) question link ⌝ }
 {
-    let at = links::place(counts, link);
-    let day = links::day(file, at);
-    if day == 0 {
+    let feed = link.feed as usize;
+    if link.day == 0 {
         return true;
     }
-    if day < question.first {
-        return false;
-    }
-    if question.last < day {
-        return false;
-    }
-    feeds::meaning(file, links::feed(file, at) as usize) == question.meaning
+    question.first <= link.day
+        && link.day <= question.last
+        && feeds::meaning(file, feed) == question.meaning
 }
 
 // Whether a link of a file that passed is admitted.
-pub fn admits(file: &[u8], counts: Counts, question: Question, link: usize) -> bool
-    requires { ⌜ Fed (now file) counts link ⌝ }
-    ensures { λ r. ⌜ r ≡ admitted (now (file .entry)) question link ⌝ }
+pub fn admits(file: &[u8], counts: Counts, question: Question, number: usize) -> bool
+    requires { ⌜ Fed (now file) counts number ⌝ }
+    ensures { λ r. ⌜ r ≡ admitted (now (file .entry)) question number ⌝ }
 {
-    if !in_sum(
-        links::kind(file, links::place(counts, link)),
-        question.classes,
-    ) {
-        return false;
-    }
-    day_admitted(file, counts, question, link)
+    let link = links::link_in(file, counts, number);
+    in_sum(link.kind, question.classes) && day_admitted(file, question, link)
 }

@@ -1,8 +1,8 @@
 // The refusals of a question, 10 to 15. No test is written twice: the one question of a listing and the one of fewest hops, which
 // names a person more, both begin with the ends and close with the rest.
 use crate::Question;
-use linkfile::links::LAST_DAY;
-use linkfile::numbers;
+use format::links::LAST_DAY;
+use format::numbers;
 use refusals::Fault;
 use ways::HOPS;
 ghost use mathlib.Core.Path.{_≡_};
@@ -29,13 +29,7 @@ fn ends_fault(persons: u32, question: Question) -> Fault
 fn days_fit(question: Question) -> bool
     ensures { λ r. ⌜ r ≡ daysFit question ⌝ }
 {
-    if question.first < 1 {
-        return false;
-    }
-    if LAST_DAY < question.last {
-        return false;
-    }
-    question.first <= question.last
+    1 <= question.first && question.last <= LAST_DAY && question.first <= question.last
 }
 
 // 11 to 15: what a question may ask, whatever the file.

@@ -2,9 +2,10 @@
 use crate::Question;
 use crate::admission;
 use compact::PERSONS;
-use linkfile::Counts;
-use linkfile::links;
-use linkfile::rows;
+use format::header;
+use format::layout::Counts;
+use format::links;
+use format::rows;
 ghost use Rattle.question.specs.Filled.{Fillable, Filled, Appendable, Appended};
 
 // Writes the persons that a person's admitted links lead to, from the cell `start` on. Answers the cell behind the last of them.
@@ -23,30 +24,26 @@ fn append(
         return start;
     }
     let stop = rows::entry(file, counts, person + 1);
-    let mut link = rows::entry(file, counts, person);
+    let mut number = rows::entry(file, counts, person);
     let mut end = start;
-    while link < stop {
-        if admission::admits(file, counts, question, link) {
-            targets[end] = links::target(file, links::place(counts, link)) as u16;
+    while number < stop {
+        if admission::admits(file, counts, question, number) {
+            let link = links::link_in(file, counts, number);
+            targets[end] = link.target as u16;
             end += 1;
         }
-        link += 1;
+        number += 1;
     }
     end
 }
 
-// Fills row starts and targets, so that, read back, they are `next`. Whoever is not in the file has an empty row behind the others,
-// so that a reader needs no person count.
-pub fn fill(
-    file: &[u8],
-    counts: Counts,
-    question: Question,
-    starts: &mut [u16],
-    targets: &mut [u16],
-)
-    requires { ⌜ Fillable (now file) counts (now starts) (now targets) ⌝ }
+// Fills row starts and targets from a file that has passed, so that, read back, they are `next`. Whoever is not in the file has an empty
+// row behind the others, so that a reader needs no person count.
+pub fn fill(file: &[u8], question: Question, starts: &mut [u16], targets: &mut [u16])
+    requires { ⌜ Fillable (now file) (now starts) (now targets) ⌝ }
     ensures { λ r. ⌜ Filled (now (file .entry)) question (now (starts .exit)) (now (targets .exit)) ⌝ }
 {
+    let counts = header::counts(file);
     let mut person = 0;
     let mut end = 0;
     starts[0] = 0;

@@ -4,12 +4,15 @@
 // and turns bytes into the compact graph that every later room sees: once a file and a question have passed, listing and
 // searching read `next` and no byte.
 mod admission;
-pub mod faults;
+mod faults;
 pub mod filling;
 
-use linkfile::Verdict;
+use checking::Verdict;
 use refusals::Fault;
-ghost use Rattle.question.specs.Asked.{Asks};
+use ways::RECORD;
+ghost use mathlib.Core.Path.{_≡_};
+ghost use Rattle.refusals.specs.Faults.{faultSaid};
+ghost use Rattle.question.specs.Asked.{Asks, askedOfFault, askedRoomFault};
 
 // From, to, hops, classes, date meaning, first day, last day.
 pub struct Question {
@@ -26,7 +29,7 @@ pub struct Question {
 pub fn asked(file: &[u8], question: Question) -> Fault
     ensures { λ r. ⌜ Asks (now (file .entry)) question r ⌝ }
 {
-    match linkfile::check(file) {
+    match checking::check(file) {
         Verdict::Refused { number, place } => Fault::At(number, place),
         Verdict::Passed {
             persons,
@@ -34,4 +37,31 @@ pub fn asked(file: &[u8], question: Question) -> Fault
             feeds: _,
         } => faults::question_fault(persons, question),
     }
+}
+
+// The same where the question names one person more, as fewest hops does.
+pub fn asked_of(file: &[u8], question: Question, person: u32) -> Fault
+    ensures { λ r. ⌜ faultSaid r ≡ askedOfFault (now (file .entry)) question person ⌝ }
+{
+    match checking::check(file) {
+        Verdict::Refused { number, place } => Fault::At(number, place),
+        Verdict::Passed {
+            persons,
+            links: _,
+            feeds: _,
+        } => faults::person_fault(persons, question, person),
+    }
+}
+
+// The same as `asked`, and then 16: so many output cells have to hold a record.
+pub fn asked_room(file: &[u8], question: Question, cells: usize) -> Fault
+    ensures { λ r. ⌜ faultSaid r ≡ askedRoomFault (now (file .entry)) question cells ⌝ }
+{
+    if let Fault::At(number, place) = asked(file, question) {
+        return Fault::At(number, place);
+    }
+    if cells < RECORD {
+        return Fault::At(16, 0);
+    }
+    Fault::Sound
 }

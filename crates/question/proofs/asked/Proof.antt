@@ -1,16 +1,14 @@
 -- `asked` meets its contract: the file's first fault decides before the question's.
-use mathlib.Core.Path.{sym, ap, _∙_}
-use Rattle.linkfile.specs.Answers.{verdictSaid}
-use Rattle.linkfile.proofs.Passed.{refused-verdict, passed-verdict}
+use Rattle.checking.proofs.Passed.{refused-said, verdict-said}
 use borrow.Author.Needs.{needs}
 use Rattle.question.proofs.asked.Statement.{statement}
 use Rattle.question.proofs.asked.Tie as tie
 
 returns : tie.Need-returns
-returns c = rw (refused-verdict (c .before .before .before .before .before .args .file .now) (sym (c .before .before .before .check .ensures) ∙ ap verdictSaid (c .before .number .given .1)))
+returns c = rw (refused-said (c .before .before .before .before .before .args .file .now) (c .before .before .before .check .ensures) (c .before .number .given .1))
 
 returns-2 : tie.Need-returns-2
-returns-2 c = let v = passed-verdict (c .before .before .before .before .before .before .args .file .now) (sym (c .before .before .before .before .check .ensures) ∙ ap verdictSaid (c .before .before .persons .given .1)) in rw (v .faultless, ← v .persons) (c .question-fault .ensures)
+returns-2 c = let v = verdict-said (c .before .before .before .before .check .ensures) (c .before .before .persons .given .1) in rw (v .faultless, ← v .persons) (c .question-fault .ensures)
 
 pub asked-spec : {M : Type 1} → statement M
 asked-spec =

@@ -3,6 +3,7 @@ use mathlib.Core.Path.{sym, _∙_}
 use mathlib.Core.Logic.{⊎-elim}
 use Prim.Native.Nat.{_-_}
 use native.Mathlib.Omega.{arith}
+use Rattle.compact.specs.Compact.{persons}
 use Rattle.distance.proofs.Stepping.{Stepping, stepping-starts, stepping-looks, stepping-known, stepping-left, stepping-added, stepping-ends}
 use Rattle.distance.proofs.table.round.Statement.{statement}
 use Rattle.distance.proofs.table.round.Tie as tie
@@ -11,7 +12,7 @@ abbrev Inv-loop : tie.InvT-loop
 Inv-loop starts targets most hops cells₀ added₀ person₀ cells added person = Stepping starts targets cells₀ most hops person added cells
 
 abbrev μ-loop : tie.MeasureT-loop
-μ-loop starts targets most hops cells₀ added₀ person₀ cells added person = 1024 - person
+μ-loop starts targets most hops cells₀ added₀ person₀ cells added person = persons - person
 
 loop-holds : tie.Need-loop-holds Inv-loop μ-loop
 loop-holds c = stepping-starts (c .before .before .before .pre)

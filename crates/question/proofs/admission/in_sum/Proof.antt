@@ -1,6 +1,6 @@
 -- `in_sum` meets its contract: the class that the match gave is the kind's.
 use mathlib.Core.Path.{sym, ap, _∙_}
-use Rattle.linkfile.specs.Kinds.{classSaid}
+use Rattle.format.specs.Kinds.{classSaid}
 use Rattle.question.proofs.Classed.{one-class}
 use borrow.Author.Needs.{needs}
 use Rattle.question.proofs.admission.in_sum.Statement.{statement}

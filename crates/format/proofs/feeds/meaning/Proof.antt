@@ -1,0 +1,12 @@
+-- `meaning` meets its contract: the byte stands in its place of the feed.
+use borrow.Author.Needs.{needs}
+use Rattle.format.proofs.feeds.meaning.Statement.{statement}
+use Rattle.format.proofs.feeds.meaning.Tie as tie
+
+returns : tie.Need-returns
+returns c = rw (← c .before .before .feed-offset .ensures) (c .wide .ensures .0)
+
+pub meaning-spec : {M : Type 1} → statement M
+meaning-spec =
+    tie.close
+    (tie.spec (λ c κs. search needs) (λ c. search needs) (λ c. search needs) (λ c κs. search needs) returns)

@@ -1,0 +1,32 @@
+// The feed table.
+use crate::layout;
+use crate::numbers;
+ghost use mathlib.Core.Path.{_≡_};
+ghost use Prim.Native.Nat.{_+_, _≤_, _<_};
+ghost use lib.ListN.{length};
+ghost use Rattle.ways.specs.Sizes.{mostFeeds};
+ghost use Rattle.format.specs.Format.{archive, meaning, feedZero, feedAt, feedSize};
+
+// The archive number of a feed.
+pub fn archive(file: &[u8], feed: usize) -> u32
+    requires { ⌜ (feed < mostFeeds) × (feedAt feed + feedSize ≤ length (now file)) ⌝ }
+    ensures { λ r. ⌜ r ≡ archive (now (file .entry)) feed ⌝ }
+{
+    numbers::number16(file, layout::feed_offset(feed))
+}
+
+// The date meaning of a feed.
+pub fn meaning(file: &[u8], feed: usize) -> u32
+    requires { ⌜ (feed < mostFeeds) × (feedAt feed + feedSize ≤ length (now file)) ⌝ }
+    ensures { λ r. ⌜ r ≡ meaning (now (file .entry)) feed ⌝ }
+{
+    numbers::wide(file[layout::feed_offset(feed) + 2])
+}
+
+// The last byte of a feed.
+pub fn zero(file: &[u8], feed: usize) -> u32
+    requires { ⌜ (feed < mostFeeds) × (feedAt feed + feedSize ≤ length (now file)) ⌝ }
+    ensures { λ r. ⌜ r ≡ feedZero (now (file .entry)) feed ⌝ }
+{
+    numbers::wide(file[layout::feed_offset(feed) + 3])
+}
