@@ -4,12 +4,13 @@ use mathlib.Core.List.{flatMap}
 use Prim.Native.Nat.{ℕ}
 use native.Mathlib.Omega.{arith}
 use lib.ListN.{length, replicate}
-use Rattle.linkfile.specs.Numbers.{number16, number32}
-use Rattle.linkfile.specs.Format.{marked, countsFit, laidOut}
-use Rattle.linkfile.specs.Kinds.{classOf}
-use Rattle.linkfile.specs.Verdict.{passed}
+use Rattle.format.specs.Numbers.{number16, number32}
+use Rattle.format.specs.Format.{marked, countsFit, laidOut}
+use Rattle.format.specs.Kinds.{classOf}
+use Rattle.checking.specs.Verdict.{passed}
 use Rattle.refusals.specs.Faults.{firstAmong}
-use Rattle.linkfile.specs.Checked.{archiveRises, feedRuled, feedFault, rowStartsOrKeeps, rowEnds, rowRuled, rowFault, targetRises, linkRuled, linkFault, ownedFault, tablesFault, fileFault, checked}
+use Rattle.checking.specs.Checked.{archiveRises, feedRuled, feedFault, rowStartsOrKeeps, rowEnds, rowRuled, rowFault, ownedFault, tablesFault, fileFault, checked}
+use Rattle.checking.specs.Links.{targetRises, linkRuled, linkFault}
 use Rattle.ways.specs.Graph.{among, keep}
 use Rattle.ways.specs.Order.{before}
 use Rattle.ways.specs.Listing.{by, ways, listing}

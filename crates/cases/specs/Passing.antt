@@ -2,9 +2,9 @@
 use mathlib.Core.Path.{_≡_}
 use mathlib.Core.List.{List, []}
 use Prim.Native.Nat.{ℕ}
-use Rattle.linkfile.specs.Format.{personCount}
+use Rattle.format.specs.Format.{personCount}
 use Rattle.refusals.specs.Faults.{sound, firstOf}
-use Rattle.linkfile.specs.Checked.{fileFault}
+use Rattle.checking.specs.Checked.{fileFault}
 use Rattle.question.specs.declared.Question.{Question}
 use Rattle.question.specs.Asked.{personFault}
 use Rattle.portion.specs.Listing.{listingFor, portionFault}

@@ -7,8 +7,8 @@ use mathlib.Core.List.{List}
 use lib.Dec.{lit<}
 use lib.ListN.{length}
 use Rattle.refusals.specs.Faults.{sound}
-use Rattle.linkfile.specs.Format.{personCount}
-use Rattle.linkfile.proofs.Passed.{sound-rules}
+use Rattle.format.specs.Format.{personCount}
+use Rattle.checking.proofs.Passed.{sound-rules}
 use Rattle.ways.specs.Sizes.{mostHops}
 use Rattle.ways.proofs.Many.{rising-few, listing-many}
 use Rattle.question.specs.declared.Question.{Question}

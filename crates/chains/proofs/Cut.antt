@@ -9,11 +9,11 @@ use borrow.Author.Tests.{le-leb, le-ltb, leb-true, leb-false}
 use lib.ListN.{length, take, drop, length-drop}
 use native.Mathlib.Nat.{zero-add, suc-add}
 use lib.Seq.{getD-take, take-nil, take-all, length-take-le}
-use Rattle.linkfile.specs.Numbers.{number16, number32}
-use Rattle.linkfile.specs.Format.{marked, countsFit, laidOut}
+use Rattle.format.specs.Numbers.{number16, number32}
+use Rattle.format.specs.Format.{marked, countsFit, laidOut}
 use Rattle.refusals.specs.Faults.{fault, unless}
-use Rattle.linkfile.specs.Checked.{tablesFault, fileFault}
-use Rattle.linkfile.proofs.Counted.{counts-fit, laid-out-long}
+use Rattle.checking.specs.Checked.{tablesFault, fileFault}
+use Rattle.format.proofs.Counted.{counts-fit, laid-out-long}
 use Rattle.question.specs.declared.Question.{Question}
 use Rattle.question.specs.Asked.{askedFault}
 use Rattle.portion.specs.Listing.{listingFor}

@@ -4,8 +4,8 @@ use mathlib.Core.Bool.{cond}
 use Prim.Native.Nat.{ℕ, _+_}
 use lib.ListN.{length, take, drop}
 use lib.Dec.{ltb}
-use Rattle.linkfile.specs.Numbers.{number32}
-use Rattle.linkfile.specs.Format.{marked, countsFit}
+use Rattle.format.specs.Numbers.{number32}
+use Rattle.format.specs.Format.{marked, countsFit}
 use Rattle.refusals.specs.Faults.{Fault, sound, fault}
 use Rattle.question.specs.declared.Question.{Question}
 use Rattle.question.specs.Asked.{askedFault}

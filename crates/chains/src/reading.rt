@@ -1,5 +1,5 @@
 // What stands on standard input: the question, or too little for one.
-use linkfile::numbers::number32;
+use format::numbers::number32;
 use question::Question;
 ghost use mathlib.Core.Path.{_≡_};
 ghost use Rattle.chains.specs.Program.{heardIn, inputSaid};

@@ -7,15 +7,15 @@ use native.Mathlib.Omega.{arith}
 use lib.ListN.{length, drop, length-take, length-drop}
 use lib.Dec.{eqb}
 use borrow.Author.Tests.{eqb-true, eqb-false}
-use Rattle.linkfile.specs.Format.{personCount, linkCount, feedCount}
-use Rattle.linkfile.specs.Verdict as verdict
+use Rattle.format.specs.Format.{personCount, linkCount, feedCount}
+use Rattle.checking.specs.Verdict as verdict
 use Rattle.refusals.specs.Faults.{Fault, sound, fault, firstOf, NumberedFrom, Numbered}
-use Rattle.linkfile.specs.Checked.{fileFault, checked}
-use Rattle.linkfile.specs.Rows.{viewStart, viewEnd}
+use Rattle.checking.specs.Checked.{fileFault, checked}
+use Rattle.checking.specs.Rows.{viewStart, viewEnd}
 use Rattle.refusals.proofs.Faults.{first-both}
-use Rattle.linkfile.proofs.Counted.{laid-out-long}
-use Rattle.linkfile.proofs.Passed.{sound-rules, passed-fits}
-use Rattle.linkfile.proofs.Numbered.{file-numbered}
+use Rattle.format.proofs.Counted.{laid-out-long}
+use Rattle.checking.proofs.Passed.{sound-rules, passed-fits}
+use Rattle.checking.proofs.Numbered.{file-numbered}
 use Rattle.ways.specs.Fewest.{fewest}
 use Rattle.ways.specs.Graph.{_∈_}
 use Rattle.ways.specs.Portions.{lastOr}

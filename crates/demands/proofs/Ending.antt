@@ -8,21 +8,21 @@ use native.Mathlib.Omega.{arith}
 use lib.ListN.{length, take, drop}
 use denote.Ref.{RefT, now}
 use borrow.Author.Tests.{le-ltb}
-use Rattle.linkfile.specs.Format.{personCount, linkCount, feedCount}
-use Rattle.linkfile.specs.Verdict as verdict
+use Rattle.format.specs.Format.{personCount, linkCount, feedCount}
+use Rattle.checking.specs.Verdict as verdict
 use Rattle.refusals.specs.Faults.{Fault, sound, fault, firstOf, Numbered}
-use Rattle.linkfile.specs.Checked.{fileFault, checked}
-use Rattle.linkfile.specs.Rows.{viewStart, viewEnd}
-use Rattle.linkfile.specs.Answers.{verdictSaid, Checks, Views}
-use Rattle.linkfile.specs.declared.Verdict.{Verdict}
-use Rattle.linkfile.proofs.Numbered.{file-numbered}
+use Rattle.checking.specs.Checked.{fileFault, checked}
+use Rattle.checking.specs.Rows.{viewStart, viewEnd}
+use Rattle.checking.specs.Answers.{verdictSaid, Checks, Views}
+use Rattle.checking.specs.declared.Verdict.{Verdict}
+use Rattle.checking.proofs.Numbered.{file-numbered}
 use Rattle.ways.specs.Fewest.{fewest}
 use Rattle.question.specs.declared.Question.{Question}
 use Rattle.question.specs.Admission.{next}
 use Rattle.question.specs.Asked.{personFault}
 use Rattle.question.proofs.Numbered.{person-numbered}
 use Rattle.distance.specs.Answers as distance
-use Rattle.distance.specs.declared.Answer as hops
+use Rattle.distance.specs.declared.HopsAnswer as hops
 use Rattle.portion.specs.Listing.{portionFault, portionFor, endedFor, Portioned}
 use Rattle.listing.specs.Portions.{Start}
 use Rattle.refusals.specs.Answers.{refused, answerSaid, answerFor}

@@ -3,9 +3,9 @@ use mathlib.Core.Path.{_≡_, refl, sym, _∙_}
 use mathlib.Core.List.{List, [], _∷_}
 use Prim.Native.Nat.{ℕ, _≤_}
 use native.Mathlib.Omega.{arith}
-use Rattle.linkfile.specs.Format.{personCount}
+use Rattle.format.specs.Format.{personCount}
 use Rattle.refusals.specs.Faults.{Fault, sound, fault, firstOf}
-use Rattle.linkfile.specs.Checked.{fileFault}
+use Rattle.checking.specs.Checked.{fileFault}
 use Rattle.ways.specs.Chain.{hops}
 use Rattle.ways.specs.Fewest.{Reach, fewest}
 use Rattle.ways.proofs.Fewest.{fewest-up-to, fewest-end, in-fewest, linked-reach, reach-linked}

@@ -4,15 +4,15 @@ use mathlib.Core.List.{List}
 use Prim.Native.Nat.{ℕ, _+_}
 use lib.ListN.{length}
 use denote.Ref.{RefT, now, ptr}
-use Rattle.linkfile.specs.Verdict as verdict
-use Rattle.linkfile.specs.Checked.{checked}
-use Rattle.linkfile.specs.Rows.{viewStart, rowView}
-use Rattle.linkfile.specs.Answers.{verdictSaid}
-use Rattle.linkfile.specs.declared.Verdict as verdict-code
-use Rattle.linkfile.proofs.OneResult.{check-one, row-one}
+use Rattle.checking.specs.Verdict as verdict
+use Rattle.checking.specs.Checked.{checked}
+use Rattle.checking.specs.Rows.{viewStart, rowView}
+use Rattle.checking.specs.Answers.{verdictSaid}
+use Rattle.checking.specs.declared.Verdict as verdict-code
+use Rattle.checking.proofs.OneResult.{check-one, row-one}
 use Rattle.question.specs.declared.Question.{Question}
 use Rattle.distance.specs.Answers as distance
-use Rattle.distance.specs.declared.Answer as distance-code
+use Rattle.distance.specs.declared.HopsAnswer as distance-code
 use Rattle.distance.proofs.OneResult.{fewest-one}
 use Rattle.portion.specs.Listing.{portionFault, portionFor, endedFor, Portioned}
 use Rattle.listing.specs.Portions.{Start}

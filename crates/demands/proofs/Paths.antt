@@ -6,7 +6,7 @@ use Prim.Native.Nat.{ℕ, _≤_, _<_}
 use native.Mathlib.Omega.{arith}
 use lib.ListN.{length}
 use borrow.Author.Tests.{le-leb}
-use Rattle.linkfile.specs.Format.{personCount}
+use Rattle.format.specs.Format.{personCount}
 use Rattle.refusals.specs.Faults.{sound}
 use Rattle.ways.specs.Graph.{_∈_}
 use Rattle.ways.specs.Chain.{Linked, Chain}

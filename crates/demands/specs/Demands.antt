@@ -8,12 +8,12 @@ use mathlib.Core.List.{List, [], _∷_}
 use Prim.Native.Nat.{ℕ, _≤_}
 use lib.ListN.{length, take}
 use denote.Ref.{RefT, now}
-use Rattle.linkfile.specs.Format.{personCount}
-use Rattle.linkfile.specs.Verdict as verdict
+use Rattle.format.specs.Format.{personCount}
+use Rattle.checking.specs.Verdict as verdict
 use Rattle.refusals.specs.Faults.{Fault, sound, fault, firstOf}
-use Rattle.linkfile.specs.Checked.{fileFault}
-use Rattle.linkfile.specs.Answers.{verdictSaid, Checks, Views}
-use Rattle.linkfile.specs.declared.Verdict.{Verdict}
+use Rattle.checking.specs.Checked.{fileFault}
+use Rattle.checking.specs.Answers.{verdictSaid, Checks, Views}
+use Rattle.checking.specs.declared.Verdict.{Verdict}
 use Rattle.ways.specs.Graph.{_∈_}
 use Rattle.ways.specs.Chain.{Distinct}
 use Rattle.ways.specs.Order.{Before, Rising}
@@ -23,7 +23,7 @@ use Rattle.ways.specs.Sizes.{recordSize}
 use Rattle.question.specs.declared.Question.{Question}
 use Rattle.question.specs.Asked.{personFault}
 use Rattle.distance.specs.Answers as distance
-use Rattle.distance.specs.declared.Answer as hops
+use Rattle.distance.specs.declared.HopsAnswer as hops
 use Rattle.portion.specs.Listing.{listingFor, portionFault, Portioned, Run, LaidEndToEnd, Resumed}
 use Rattle.listing.specs.Portions.{Start, fresh, bookmarked, startFault}
 use Rattle.refusals.specs.Answers.{listed, refused, answerSaid}

@@ -8,9 +8,9 @@ use mathlib.Core.List.{List}
 use Prim.Native.Nat.{ℕ, _^_, _≤_, _<_}
 use lib.ListN.{length}
 use lib.Dec.{eqb}
-use Rattle.linkfile.specs.Format.{personCount, linkCount, feedCount}
+use Rattle.format.specs.Format.{personCount, linkCount, feedCount}
 use Rattle.refusals.specs.Faults.{Fault, sound, fault, unless, firstOf}
-use Rattle.linkfile.specs.Checked.{fileFault}
+use Rattle.checking.specs.Checked.{fileFault}
 use Rattle.question.specs.declared.Question.{Question}
 use Rattle.question.specs.Asked.{personFault}
 use Rattle.portion.specs.Listing.{portionFault, portionFor, endedFor}

@@ -6,11 +6,11 @@ use mathlib.Core.List.{List}
 use Prim.Native.Nat.{ℕ}
 use base.Fml.{GName}
 use denote.Ref.{RefT}
-use Rattle.linkfile.specs.Answers.{Checks, Views}
-use Rattle.linkfile.specs.declared.Verdict.{Verdict}
+use Rattle.checking.specs.Answers.{Checks, Views}
+use Rattle.checking.specs.declared.Verdict.{Verdict}
 use Rattle.question.specs.declared.Question.{Question}
 use Rattle.distance.specs.Answers.{FewestHops}
-use Rattle.distance.specs.declared.Answer as distance
+use Rattle.distance.specs.declared.HopsAnswer as distance
 use Rattle.listing.specs.Portions.{Start}
 use Rattle.portion.specs.Listing.{Portioned}
 use Rattle.refusals.specs.declared.Answer.{Answer}

@@ -6,13 +6,13 @@ use Prim.Native.Nat.{ℕ, suc, _≤_, _<_}
 use lib.ListN.{length, replicate, length-replicate, getD-replicate, List·getD-eq-default}
 use native.Mathlib.Omega.{arith}
 use borrow.Author.Tests.{le-leb, lt-leb}
-use Rattle.linkfile.specs.Format.{personCount, linkCount, feedCount}
+use Rattle.format.specs.Format.{personCount, linkCount, feedCount}
 use Rattle.refusals.specs.Faults.{Fault, sound, fault, firstOf, faultSaid}
-use Rattle.linkfile.specs.Checked.{fileFault}
-use Rattle.linkfile.specs.Inside.{Laid}
-use Rattle.linkfile.specs.declared.Counts.{Counts}
+use Rattle.checking.specs.Checked.{fileFault}
+use Rattle.format.specs.Laid.{Laid}
+use Rattle.format.specs.declared.layout.Counts.{Counts}
 use Rattle.refusals.specs.declared.Fault as look
-use Rattle.linkfile.proofs.Passed as file-passed
+use Rattle.checking.proofs.Passed as file-passed
 use Rattle.ways.specs.Graph.{Graph, _∈_}
 use Rattle.ways.specs.ByHops.{byHops}
 use Rattle.ways.specs.Halves.{halves}

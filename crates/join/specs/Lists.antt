@@ -4,7 +4,7 @@ use mathlib.Core.Bool.{Bool}
 use Prim.Native.Nat.{ℕ}
 use lib.ListN.{length, take}
 use lib.Dec.{leb}
-use Rattle.linkfile.specs.Format.{personCount}
+use Rattle.format.specs.Format.{personCount}
 use Rattle.refusals.specs.Faults.{Fault, sound, unless, firstOf}
 use Rattle.refusals.specs.Answers.{roomFault}
 use Rattle.ways.specs.Records.{roomOf}

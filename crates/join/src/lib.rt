@@ -99,7 +99,7 @@ pub fn join(file: &[u8], question: Question, working: &mut [u32], out: &mut [u32
     let mut targets = [0u16; LINKS];
     question::filling::fill(
         file,
-        linkfile::header::counts(file),
+        format::header::counts(file),
         question,
         &mut rows,
         &mut targets,

@@ -2,11 +2,12 @@
 use mathlib.Core.Path.{_≡_, refl}
 use mathlib.Core.Bool.{Bool, true, false, cond}
 use mathlib.Core.List.{List, []}
-use Prim.Native.Nat.{ℕ, _<_, _≤_}
+use Prim.Native.Nat.{ℕ, _≤_}
 use lib.ListN.{length}
 use lib.Dec.{eqb}
-use borrow.Author.Tests.{le-leb, lt-leb}
-use Rattle.refusals.specs.Faults.{Fault, sound, fault, unless}
+use Rattle.refusals.specs.Faults.{Fault, sound, fault, unless, firstOf}
+use Rattle.refusals.specs.Answers.{roomFault}
+use Rattle.refusals.proofs.Room.{room-refuses, room-left}
 use Rattle.refusals.specs.declared.Answer as code
 use Rattle.ways.specs.Records.{chainOf, isRecordIn}
 use Rattle.ways.specs.Sizes.{recordSize}
@@ -28,20 +29,16 @@ start-decides chains started cells = go (eqb started 0)
     go true = refl
     go false = refl
 
-module _ {first : Fault} {chains : List (List ℕ)} {start : Start} {out : List ℕ} where
-  -- a refusal answers its number and place, and changes no cell
-  pub portion-refused : {number place : ℕ} → refusalOf first chains start out ≡ fault number place → PortionOf first chains start out out (code.the-variants.Refused number place)
-  portion-refused e = record { answers = rw e; cells = rw e }
+-- a refusal answers its number and place, and changes no cell
+pub portion-refused : {first : Fault} {chains : List (List ℕ)} {start : Start} {out : List ℕ} {number place : ℕ} → refusalOf first chains start out ≡ fault number place → PortionOf first chains start out out (code.the-variants.Refused number place)
+portion-refused e = record { answers = rw e; cells = rw e }
 
-  pub refused-first : {number place : ℕ} → first ≡ fault number place → PortionOf first chains start out out (code.the-variants.Refused number place)
-  unfolding refusalOf
-  refused-first e = portion-refused (rw e)
-
-  pub refused-room : first ≡ sound → length out < recordSize → PortionOf first chains start out out (code.the-variants.Refused 16 0)
-  unfolding refusalOf
-  refused-room e h = portion-refused (rw (e, lt-leb recordSize (length out) h))
+-- what is found before the listing is looked at is refused first
+pub refused-first : {first : Fault} {chains : List (List ℕ)} {start : Start} {out : List ℕ} {number place : ℕ} → firstOf first (roomFault (length out) sound) ≡ fault number place → PortionOf first chains start out out (code.the-variants.Refused number place)
+unfolding refusalOf
+refused-first {first} {chains} {start} {out} e = portion-refused (room-refuses first (length out) (startFault chains start) e)
 
 -- with nothing found before and room for a record, the start decides
 pub start-left : {first : Fault} (chains : List (List ℕ)) (start : Start) (out : List ℕ) → first ≡ sound → recordSize ≤ length out → refusalOf first chains start out ≡ startFault chains start
 unfolding refusalOf
-start-left chains start out e h = rw (e, le-leb recordSize (length out) h)
+start-left chains start out none h = room-left (length out) (startFault chains start) none h

@@ -6,9 +6,9 @@ use Prim.Native.Nat.{ℕ, _^_, _<_, _≤_}
 use native.Mathlib.Omega.{arith}
 use lib.ListN.{length, length-take}
 use mir.Val.{boolByte}
-use Rattle.linkfile.specs.Format.{personCount}
+use Rattle.format.specs.Format.{personCount}
 use Rattle.refusals.specs.Faults.{Fault, sound, fault, firstOf, Numbered}
-use Rattle.linkfile.specs.Checked.{fileFault}
+use Rattle.checking.specs.Checked.{fileFault}
 use Rattle.ways.specs.Fewest.{fewest}
 use Rattle.ways.specs.Portions.{after}
 use Rattle.ways.specs.Records.{roomOf}
@@ -18,7 +18,7 @@ use Rattle.ways.specs.Sizes.{recordSize}
 use Rattle.question.specs.Asked.{personFault}
 use Rattle.question.proofs.Numbered.{person-numbered}
 use Rattle.distance.specs.Answers as distance
-use Rattle.distance.specs.declared.Answer as distance-code
+use Rattle.distance.specs.declared.HopsAnswer as distance-code
 use Rattle.portion.specs.Listing.{listingFor, portionFault, portionFor, endedFor, Portioned}
 use Rattle.listing.specs.Portions.{Start, startsAfter}
 use Rattle.refusals.specs.Answers.{answerSaid, answerFor}

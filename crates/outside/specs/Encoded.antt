@@ -4,9 +4,9 @@ use mathlib.Core.Bool.{Bool, true, false}
 use mathlib.Core.List.{List}
 use Prim.Native.Nat.{ℕ, _+_, _*_, _^_, _<_, _≤_}
 use lib.ListN.{length}
-use Rattle.linkfile.specs.Verdict.{Verdict, passed, refused}
-use Rattle.linkfile.specs.Checked.{checked}
-use Rattle.linkfile.specs.Rows.{rowView}
+use Rattle.checking.specs.Verdict.{Verdict, passed, refused}
+use Rattle.checking.specs.Checked.{checked}
+use Rattle.checking.specs.Rows.{rowView}
 use Rattle.question.specs.declared.Question.{Question}
 use Rattle.distance.specs.Answers as distance
 use Rattle.refusals.specs.Answers as answers

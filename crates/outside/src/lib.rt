@@ -5,13 +5,13 @@
 mod encoding;
 mod held_cells;
 
+use checking::Verdict;
 use encoding::asking;
 use encoding::listed_number;
 use encoding::refusal_number;
 use held_cells::HELD;
 use held_cells::held_of;
 use held_cells::keep;
-use linkfile::Verdict;
 ghost use Rattle.listing.specs.Portions.{startSaid};
 ghost use Rattle.outside.specs.Encoded.{CheckNumber, RowNumber, FewestNumber, PortionNumber, JoinNumber, asking};
 ghost use Rattle.outside.specs.HeldCells.{HeldNumber};
@@ -21,7 +21,7 @@ ghost use Rattle.outside.specs.HeldCells.{HeldNumber};
 pub extern "C" fn kin_check(file: &[u8]) -> u64
     ensures { λ r. ⌜ CheckNumber (now (file .entry)) r ⌝ }
 {
-    match linkfile::check(file) {
+    match checking::check(file) {
         Verdict::Passed {
             persons,
             links,
@@ -36,7 +36,7 @@ pub extern "C" fn kin_check(file: &[u8]) -> u64
 pub extern "C" fn kin_row(file: &[u8], person: u32) -> u64
     ensures { λ r. ⌜ RowNumber (now (file .entry)) person r ⌝ }
 {
-    linkfile::row(file, person).len() as u64
+    checking::row(file, person).len() as u64
 }
 
 // The fewest hops, or hops + 1.
@@ -56,8 +56,8 @@ pub extern "C" fn kin_fewest(
 {
     let question = asking(from, to, hops, classes, meaning, first, last);
     match distance::fewest(file, question, person) {
-        distance::Answer::Hops(fewest) => fewest as u64,
-        distance::Answer::Refused { number, place } => refusal_number(number, place),
+        distance::HopsAnswer::Hops(fewest) => fewest as u64,
+        distance::HopsAnswer::Refused { number, place } => refusal_number(number, place),
     }
 }
 

@@ -9,8 +9,8 @@ use lib.ListN.{length, getD, drop, replicate, length-drop}
 use lib.Seq.{slice, length-take-le}
 use lib.Dec.{eqb}
 use borrow.Author.Tests.{eqb-true, eq-eqb, le-leb, not-true}
-use Rattle.linkfile.specs.Numbers.{within}
-use Rattle.linkfile.proofs.Counted.{halves, within-facts}
+use Rattle.format.specs.Numbers.{within}
+use Rattle.format.proofs.Counted.{halves, within-facts}
 use Rattle.ways.specs.Graph.{Graph, among}
 use Rattle.ways.specs.Chain.{First, Last, Linked, Distinct, hops, Chain}
 use Rattle.ways.specs.Listing.{listing}

@@ -5,7 +5,6 @@ use Prim.Native.Nat.{ℕ, _<_}
 use native.Mathlib.Omega.{arith}
 use Rattle.refusals.specs.Faults.{sound, Numbered}
 use Rattle.refusals.proofs.Numbered.{numbered-more}
-use Rattle.linkfile.proofs.Passed.{sound-rules}
 use Rattle.ways.specs.Order.{Rising}
 use Rattle.ways.specs.Listing.{ways, listing}
 use Rattle.ways.specs.Portions.{after}
@@ -16,12 +15,12 @@ use Rattle.ways.proofs.Records.{listing-fits}
 use Rattle.question.specs.declared.Question.{Question}
 use Rattle.question.specs.Asked.{askedFault}
 use Rattle.question.specs.Admission.{next}
+use Rattle.question.proofs.Answerable.{asked-answerable}
 use Rattle.question.proofs.Leads.{next-rising}
 use Rattle.question.proofs.Numbered.{asked-numbered}
 use Rattle.listing.specs.Portions.{Listing, Start}
 use Rattle.listing.proofs.Numbered as any
 use Rattle.portion.specs.Listing.{listingFor, portionFault}
-use Rattle.portion.proofs.Starting.{asked-file, asked-proper}
 
 module _ (file : List ℕ) (q : Question) where
   -- a fresh start comes before every chain, whether file and question pass or not
@@ -31,12 +30,12 @@ module _ (file : List ℕ) (q : Question) where
 
   module _ (asked : askedFault file q ≡ sound) where
     pub rows : (p : ℕ) → Rising _<_ (next file q p)
-    rows = next-rising (sound-rules file (asked-file file q asked)) q
+    rows = next-rising (asked-answerable file q asked .rules) q
 
     pub chains-listing : Listing (listingFor file q)
     chains-listing = record {
       rises = ordered (next file q) rows (q .from) (q .to) (q .hops);
-      fits = listing-fits (next file q) (q .from) (q .to) (q .hops) recordSize (omega (arith, asked-proper file q asked .most));
+      fits = listing-fits (next file q) (q .from) (q .to) (q .hops) recordSize (omega (arith, asked-answerable file q asked .proper .most));
     }
 
   pub portion-numbered : (start : Start) (out : List ℕ) → Numbered 17 (portionFault file q start out)

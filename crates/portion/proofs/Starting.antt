@@ -7,23 +7,18 @@ use native.Mathlib.Omega.{arith}
 use lib.ListN.{length}
 use lib.Dec.{eqb}
 use borrow.Author.Tests.{ne-eqb}
-use Rattle.linkfile.specs.Format.{personCount}
 use Rattle.refusals.specs.Faults.{sound, unless}
-use Rattle.linkfile.specs.Checked.{fileFault}
-use Rattle.refusals.proofs.Faults.{first-both}
-use Rattle.linkfile.proofs.Passed.{sound-rules, passed-fits}
 use Rattle.ways.specs.Graph.{Graph}
 use Rattle.ways.specs.Listing.{listing}
 use Rattle.ways.specs.Portions.{endedAfter}
 use Rattle.ways.specs.Records.{isRecordIn, roomOf}
 use Rattle.ways.specs.Sizes.{recordSize}
-use Rattle.compact.specs.Compact.{graphOf, persons}
+use Rattle.compact.specs.Compact.{graphOf}
 use Rattle.pages.specs.declared.HandedOver.{HandedOver}
 use Rattle.question.specs.declared.Question.{Question}
-use Rattle.question.specs.Asked.{askedFault, questionFault}
 use Rattle.question.specs.Admission.{next}
 use Rattle.question.specs.Filled.{Filled}
-use Rattle.question.proofs.Refused.{Proper, question-proper}
+use Rattle.question.proofs.Answerable.{asked-answerable}
 use Rattle.search.specs.Face as search
 use Rattle.listing.specs.Portions.{startSaid, startFault}
 use Rattle.listing.proofs.Answering.{start-mark, start-decides, portion-refused, start-left}
@@ -32,17 +27,6 @@ use Rattle.portion.specs.Inside.{Passes}
 use Rattle.portion.specs.Listing.{listingFor, portionFault, Portioned}
 use Rattle.refusals.specs.declared.Answer as code
 use Rattle.portion.proofs.Bookmarks.{bookmark-is}
-
--- a file and a question that have passed
-module _ (file : List ℕ) (q : Question) (e : askedFault file q ≡ sound) where
-  pub asked-file : fileFault file ≡ sound
-  asked-file = first-both (fileFault file) (questionFault (personCount file) q) e .0
-
-  pub asked-proper : Proper (personCount file) q
-  asked-proper = question-proper (personCount file) q (first-both (fileFault file) (questionFault (personCount file) q) e .1)
-
-  pub asked-few : personCount file ≤ persons
-  asked-few = passed-fits (sound-rules file asked-file) .persons
 
 -- the graph that was filled is `next`
 pub filled-next : {file : List ℕ} {q : Question} {starts targets : List ℕ} → Filled file q starts targets → graphOf starts targets ≡ next file q
@@ -62,7 +46,7 @@ module _ {file : List ℕ} {q : Question} {starts targets out : List ℕ} (p : P
   -- what is refused is decided by the test of the start alone
   decides : portionFault file q (startSaid started cells) out ≡ unless (startFits (graphOf starts targets) q started cells) 17 0 sound
   decides =
-      let proper = asked-proper file q (p .asked) in
+      let proper = asked-answerable file q (p .asked) .proper in
       start-left (listingFor file q) (startSaid started cells) out (p .asked) (p .room) ∙ rw (filled-next f) (fits-decides (next file q) q started cells (proper .differ) (omega (arith, proper .most)))
 
   pub refused-start : startFits (graphOf starts targets) q started cells ≡ false → Portioned file q (startSaid started cells) out out (code.the-variants.Refused 17 0)
@@ -71,7 +55,7 @@ module _ {file : List ℕ} {q : Question} {starts targets out : List ℕ} (p : P
   -- a bookmark that the test lets pass is one that the search may start from
   pub start-marked : startFits (graphOf starts targets) q started cells ≡ true → (started ≡ 0 → ⊥) → isRecordIn recordSize (listing (graphOf starts targets) (q .from) (q .to) (q .hops)) cells ≡ true
   start-marked e n =
-      let proper = asked-proper file q (p .asked) in
+      let proper = asked-answerable file q (p .asked) .proper in
       sym (bookmark-is (graphOf starts targets) (q .from) (q .to) (q .hops) recordSize (proper .differ) (omega (arith, proper .most)) cells) ∙ rw (ne-eqb started 0 n) at e
 
   -- what the search found is the portion

@@ -6,7 +6,7 @@ use Prim.Native.Nat.{ℕ, _+_}
 use lib.ListN.{length, getD, drop}
 use lib.Seq.{slice}
 use lib.Dec.{eqb}
-use Rattle.linkfile.specs.Numbers.{within}
+use Rattle.format.specs.Numbers.{within}
 use Rattle.ways.specs.Graph.{Graph, among}
 use Rattle.ways.specs.Sizes.{recordSize}
 use Rattle.question.specs.declared.Question.{Question}

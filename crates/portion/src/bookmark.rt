@@ -97,7 +97,7 @@ pub fn is_chain(
     if cells.len() != RECORD {
         return false;
     }
-    if !linkfile::numbers::within(1, hops, cells[0]) {
+    if !format::numbers::within(1, hops, cells[0]) {
         return false;
     }
     if cells[1] != from {

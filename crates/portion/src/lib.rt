@@ -8,12 +8,10 @@ mod bookmark;
 use compact::LINKS;
 use compact::STARTS;
 use distance::table;
-use linkfile::header;
 use question::Question;
 use question::filling;
 use refusals::Answer;
 use refusals::Fault;
-use ways::RECORD;
 ghost use Rattle.listing.specs.Portions.{startSaid};
 ghost use Rattle.portion.specs.Inside.{Passes};
 ghost use Rattle.portion.specs.Listing.{Portioned};
@@ -29,14 +27,8 @@ pub fn portion(
 ) -> Answer
     ensures { λ r. ⌜ Portioned (now (file .entry)) question (startSaid started (now (bookmark .entry))) (now (out .entry)) (now (out .exit)) r ⌝ }
 {
-    if let Fault::At(number, place) = question::asked(file, question) {
+    if let Fault::At(number, place) = question::asked_room(file, question, out.len()) {
         return Answer::Refused { number, place };
-    }
-    if out.len() < RECORD {
-        return Answer::Refused {
-            number: 16,
-            place: 0,
-        };
     }
     listed(file, question, started, bookmark, out)
 }
@@ -55,13 +47,7 @@ fn listed(
 {
     let mut starts = [0u16; STARTS];
     let mut targets = [0u16; LINKS];
-    filling::fill(
-        file,
-        header::counts(file),
-        question,
-        &mut starts,
-        &mut targets,
-    );
+    filling::fill(file, question, &mut starts, &mut targets);
     if !bookmark::fits(&starts, &targets, question, started, bookmark) {
         return Answer::Refused {
             number: 17,

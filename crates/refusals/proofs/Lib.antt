@@ -2,3 +2,4 @@
 pub mod Faults
 pub mod Numbered
 pub mod Answers
+pub mod Room

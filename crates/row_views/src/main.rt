@@ -1,8 +1,8 @@
 // Prints the verdict on the link file that comes on standard input and, where it passed, the bytes of each person's row view,
 // one line a person. What the bytes are is decided in `linkfile`.
+use checking::Verdict;
 use libc::STDIN_FILENO;
 use libc::STDOUT_FILENO;
-use linkfile::Verdict;
 
 fn print(text: &[u8]) {
     io::write_all(STDOUT_FILENO, text);
@@ -28,13 +28,13 @@ fn print_view(person: u32, view: &[u8]) {
 fn print_views(file: &[u8], persons: u32) {
     let mut person = 0;
     while person < persons {
-        print_view(person, linkfile::row(file, person));
+        print_view(person, checking::row(file, person));
         person += 1;
     }
 }
 
 fn print_verdict(file: &[u8]) {
-    match linkfile::check(file) {
+    match checking::check(file) {
         Verdict::Passed {
             persons,
             links,

@@ -1,9 +1,9 @@
 -- `kin_check` meets its contract: the counts and the refusal numbers are small enough for their places in 64 bits.
 use mathlib.Core.Path.{sym, ap, _∙_}
 use native.Mathlib.Omega.{arith}
-use Rattle.linkfile.specs.Answers.{verdictSaid}
-use Rattle.linkfile.proofs.Passed.{passed-said, passed-fits}
-use Rattle.linkfile.proofs.Numbered.{refused-number}
+use Rattle.checking.specs.Answers.{verdictSaid}
+use Rattle.checking.proofs.Passed.{passed-said, passed-fits}
+use Rattle.checking.proofs.Numbered.{refused-number}
 use Rattle.outside.specs.Encoded.{verdictNumber}
 use borrow.Author.Needs.{needs}
 use Rattle.outside.proofs.kin_check.Statement.{statement}

@@ -4,7 +4,7 @@ use Prim.Native.Nat.{_+_}
 use native.Mathlib.Omega.{arith}
 use lib.ListN.{getD}
 use borrow.Author.Tests.{eq-eqb, ne-eqb, not-true, not-false}
-use Rattle.linkfile.proofs.Counted.{within-facts}
+use Rattle.format.proofs.Counted.{within-facts}
 use Rattle.ways.specs.Sizes.{recordSize}
 use Rattle.portion.specs.Bookmark.{isBookmark}
 use borrow.Author.Needs.{needs}
