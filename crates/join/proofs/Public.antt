@@ -18,7 +18,6 @@ use Rattle.ways.specs.ByHops.{byHops}
 use Rattle.ways.specs.Halves.{halves}
 use Rattle.ways.specs.Sizes.{recordSize}
 use Rattle.ways.proofs.Cases.{lt-or-le}
-use Rattle.ways.proofs.Halves.{halves-exact, halves-ordered, halves-determined}
 use Rattle.compact.specs.Compact.{persons, graphOf}
 use Rattle.question.specs.declared.Question.{Question}
 use Rattle.question.specs.Asked.{askedFault, questionFault, Asks}
@@ -29,7 +28,6 @@ use Rattle.question.proofs.Leads.{next-none}
 use Rattle.join.specs.Lists.{halvesFor, chainsFor, roomFault, halvesFault, joinFault}
 use Rattle.join.specs.Answers.{Answered, Joins, Passed, halvesIn, JoinsIn}
 use Rattle.portion.specs.declared.Answer as code
-use Rattle.half_chains.proofs.Standing.{low-persons}
 
 -- a refusal: nothing has changed
 refused-first : (file : List ℕ) (q : Question) (working out : List ℕ) {number place : ℕ} → joinFault file q working out ≡ fault number place → Joins file q working working out out (code.the-variants.Refused number place)
@@ -61,23 +59,18 @@ module _ (file : List ℕ) (q : Question) {answer : look.Fault} (asks : Asks fil
       people = λ i h. ⊎-elim (λ l. omega (arith, getD-replicate {A = ℕ} 4096 i 0 0 l)) (λ l. omega (arith, List·getD-eq-default (replicate {A = ℕ} 4096 0) 0 {n = i} (rw (length-replicate {A = ℕ} 4096 0) l))) (lt-or-le i 4096);
     }
 
-    module _ {rows targets : List ℕ} (f : Filled file q rows targets) where
-      pub join-passed : Passed rows targets (q .from) (q .to) (q .hops)
+    module _ {rows targets : List ℕ} (f : Filled file q rows targets) {counts : Counts} (laid : Laid file counts) where
+      -- whoever is no person of the file has no links
+      low : (p v : ℕ) → v ∈ graphOf rows targets p → p < counts .persons
+      low p v m = ⊎-elim (λ l. omega (arith, l, laid .persons)) (λ l. absurd (List·Memᴰ·not-nil (subst (λ r. v ∈ r) (f .graph p ∙ next-none file q p l) m))) (lt-or-le p (personCount file))
+
+      pub join-passed : Passed rows targets (counts .persons) (q .from) (q .to) (q .hops)
       join-passed =
-          let p = asked-passed asks is in
-          let fit = file-passed.passed-fits (p .0) in
-          record { graph = f .compact; source = omega (arith, p .1 .from, fit .persons); target = omega (arith, p .1 .to, fit .persons); differ = p .1 .differ; some = p .1 .some; few = p .1 .most }
+          let p = asked-passed asks is .1 in
+          record { graph = f .compact; known = laid .manyPersons; low = low; source = omega (arith, p .from, laid .persons); target = omega (arith, p .to, laid .persons); differ = p .differ; few = p .most }
 
-      low : (p v : ℕ) → v ∈ graphOf rows targets p → p < personCount file
-      low p v m = ⊎-elim (λ l. l) (λ l. absurd (List·Memᴰ·not-nil (subst (λ r. v ∈ r) (f .graph p ∙ next-none file q p l) m))) (lt-or-le p (personCount file))
-
-      -- no half chain has a person who is not in the file
-      same-halves : halvesIn rows targets (q .from) (q .to) (q .hops) ≡ halvesFor file q
-      same-halves =
-          halves-determined (graphOf rows targets) (personCount file) (q .from) (q .to) (join-passed .differ) low (q .hops) (halvesIn rows targets (q .from) (q .to) (q .hops))
-          (halves-ordered (graphOf rows targets) persons (q .from) (q .to) (join-passed .differ) (low-persons (f .compact)) (q .hops))
-          (halves-exact (graphOf rows targets) persons (q .from) (q .to) (join-passed .differ) (low-persons (f .compact)) (q .hops))
-          ∙ ap (λ (g : Graph). halves g (personCount file) (q .from) (q .to) (q .hops)) (fun-ext (f .graph))
+      same-halves : halvesIn rows targets (counts .persons) (q .from) (q .to) (q .hops) ≡ halvesFor file q
+      same-halves = ap (λ (n : ℕ). halves (graphOf rows targets) n (q .from) (q .to) (q .hops)) (laid .persons) ∙ ap (λ (g : Graph). halves g (personCount file) (q .from) (q .to) (q .hops)) (fun-ext (f .graph))
 
       same-chains : byHops (graphOf rows targets) (q .from) (q .to) (q .hops) ≡ chainsFor file q
       same-chains = ap (λ (g : Graph). byHops g (q .from) (q .to) (q .hops)) (fun-ext (f .graph))
@@ -85,7 +78,7 @@ module _ (file : List ℕ) (q : Question) {answer : look.Fault} (asks : Asks fil
       same-fault : (working out : List ℕ) → recordSize ≤ length out → joinFault file q working out ≡ halvesFault recordSize (length working) (halvesFor file q)
       same-fault working out h = ap (λ (d : Fault). firstOf d (roomFault recordSize (length out) (halvesFault recordSize (length working) (halvesFor file q)))) none ∙ rw (le-leb recordSize (length out) h)
 
-      pub join-joins : {working working′ out out′ : List ℕ} {r : code.Answer} → recordSize ≤ length out → JoinsIn rows targets (q .from) (q .to) (q .hops) working working′ out out′ r → Joins file q working working′ out out′ r
+      pub join-joins : {working working′ out out′ : List ℕ} {r : code.Answer} → recordSize ≤ length out → JoinsIn rows targets (counts .persons) (q .from) (q .to) (q .hops) working working′ out out′ r → Joins file q working working′ out out′ r
       join-joins {working} {working′} {out} {out′} {r} h j =
           let a : Answered (halvesFor file q) (chainsFor file q) working working′ out out′ r =
           subst (λ c. Answered (halvesFor file q) c working working′ out out′ r) same-chains

@@ -10,44 +10,46 @@ use compact::STARTS;
 use half_chains::INDEX;
 use half_chains::chains;
 use half_chains::halves;
+use half_chains::traces::COUNT;
+use half_chains::traces::Sought;
+use half_chains::traces::WRITE;
 use linkfile::Fault;
 use portion::Answer;
 use question::Question;
 use ways::RECORD;
 
-// The join over the compact graph: the half chains are counted before any cell is written.
+// The join over the compact graph of a file of so many persons: the half chains are counted before any cell is written.
 fn join_graph(
     rows: &[u16; STARTS],
     targets: &[u16; LINKS],
+    persons: usize,
     from: u32,
     to: u32,
     hops: u32,
     working: &mut [u32],
     out: &mut [u32],
 ) -> Answer
-    requires { ⌜ Passed (now rows) (now targets) from to hops ⌝ }
-    ensures { λ r. ⌜ JoinsIn (now (rows .entry)) (now (targets .entry)) from to hops (now (working .entry)) (now (working .exit)) (now (out .entry)) (now (out .exit)) r ⌝ }
+    requires { ⌜ Passed (now rows) (now targets) persons from to hops ⌝ }
+    ensures { λ r. ⌜ JoinsIn (now (rows .entry)) (now (targets .entry)) persons from to hops (now (working .entry)) (now (working .exit)) (now (out .entry)) (now (out .exit)) r ⌝ }
 {
     let source = from as usize;
+    let sought = Sought {
+        persons: persons,
+        from: source,
+        to: to as usize,
+        hops: hops as usize,
+    };
     let mut marks = [false; PERSONS];
     marks[source] = true;
-    let mut only = [0u32; RECORD];
-    only[1] = to;
-    let mut ending = [0usize; STARTS];
-    halves::lone(&mut ending, to as usize);
     let mut index = [0usize; INDEX];
-    let most = hops as usize;
-    let places = (most / 2 + 1) * PERSONS;
     let counted = halves::shelve(
         rows,
         targets,
-        &only,
-        &ending,
         &mut marks,
         &mut index,
         working,
-        halves::COUNT,
-        places,
+        sought,
+        COUNT,
     );
     if counted.more != 0 {
         return Answer::Refused {
@@ -58,24 +60,13 @@ fn join_graph(
     halves::shelve(
         rows,
         targets,
-        &only,
-        &ending,
         &mut marks,
         &mut index,
         working,
-        halves::WRITE,
-        places,
+        sought,
+        WRITE,
     );
-    let found = chains::gather(
-        rows,
-        targets,
-        working,
-        &index,
-        &mut marks,
-        out,
-        source,
-        most,
-    );
+    let found = chains::gather(rows, targets, working, &index, &mut marks, out, sought);
     Answer::Listed {
         count: found.count,
         ended: found.more == 0,
@@ -107,6 +98,7 @@ pub fn join(file: &[u8], question: Question, working: &mut [u32], out: &mut [u32
     join_graph(
         &rows,
         &targets,
+        linkfile::header::counts(file).persons,
         question.from,
         question.to,
         question.hops,

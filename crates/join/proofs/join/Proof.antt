@@ -24,24 +24,24 @@ fill-requires c κs =
     let at-start = c .before .before .before .before .before .before .before .before .before .before in
     join-fill (at-start .args .file .now) (at-start .args .question) (c .before .before .before .before .before .before .asked .ensures) (c .before .before .before .before .enum-told .given .1) (c .before .before .counts .ensures)
 
+counts-requires-2 : tie.Need-counts-requires-2
+counts-requires-2 c κs =
+    let at-start = c .before .before .before .before .before .before .before .before .before .before .before .before .before .before .before in
+    let p = join-counts (at-start .args .file .now) (at-start .args .question) (c .before .before .before .before .before .before .before .before .before .before .before .asked .ensures) (c .before .before .before .before .before .before .before .before .before .enum-told .given .1) in (p .marks, (p .fits, p .lays))
+
 join-graph-requires : tie.Need-join-graph-requires
 join-graph-requires c κs =
-    let at-start = c .before .before .before .before .before .before .before .before .before .before .before .before .before .before .before .before .before in
-    let at-asked = c .before .before .before .before .before .before .before .before .before .before .before .before .before .asked in
-    let at-enum-told = c .before .before .before .before .before .before .before .before .before .before .before .enum-told in
-    join-passed (at-start .args .file .now) (at-start .args .question) (at-asked .ensures) (at-enum-told .given .1) (c .before .before .before .before .before .before .fill .ensures)
+    let at-start = c .before .before .before .before .before .before .before .before .before .before .before .before .before .before .before .before .before .before in
+    join-passed (at-start .args .file .now) (at-start .args .question) (c .before .before .before .before .before .before .before .before .before .before .before .before .before .before .asked .ensures) (c .before .before .before .before .before .before .before .before .before .before .before .before .enum-told .given .1) (c .before .before .before .before .before .before .before .fill .ensures) (c .before .before .counts2 .ensures)
 
 returns-3 : tie.Need-returns-3
 returns-3 c =
-    let at-start = c .before .before .before .before .before .before .before .before .before .before .before .before .before .before .before .before .before .before .before .before .before .before in
-    let at-asked = c .before .before .before .before .before .before .before .before .before .before .before .before .before .before .before .before .before .before .asked in
-    let at-enum-told = c .before .before .before .before .before .before .before .before .before .before .before .before .before .before .before .before .enum-told in
-    let at-fill = c .before .before .before .before .before .before .before .before .before .before .before .fill in
-    let at-if1 = c .before .before .before .before .before .before .before .before .before .before .before .before .before .before .before .if1 in
-    join-joins (at-start .args .file .now) (at-start .args .question) (at-asked .ensures) (at-enum-told .given .1) (at-fill .ensures) (at-if1 .left) (c .before .before .before .before .join-graph .ensures)
+    let at-start = c .before .before .before .before .before .before .before .before .before .before .before .before .before .before .before .before .before .before .before .before .before .before .before in
+    join-joins (at-start .args .file .now) (at-start .args .question) (c .before .before .before .before .before .before .before .before .before .before .before .before .before .before .before .before .before .before .before .asked .ensures) (c .before .before .before .before .before .before .before .before .before .before .before .before .before .before .before .before .before .enum-told .given .1) (c .before .before .before .before .before .before .before .before .before .before .before .before .fill .ensures) (c .before .before .before .before .before .before .before .counts2 .ensures) (c .before .before .before .before .before .before .before .before .before .before .before .before .before .before .before .before .if1 .left)
+    (c .before .before .before .before .join-graph .ensures)
 
 pub join-spec : {M : Type 1} → statement M
 join-spec =
     tie.close
     (tie.spec (λ c κs. search needs) (λ c. search needs) returns (λ c. search needs) returns-2 counts-requires (λ c. search needs) (λ c. search needs)
-    fill-requires join-graph-requires (λ c. search needs) (λ c. search needs) returns-3)
+    fill-requires counts-requires-2 join-graph-requires (λ c. search needs) (λ c. search needs) returns-3)
