@@ -2,7 +2,7 @@
 use mathlib.Core.Path.{_≡_, refl, sym, ap, _∙_}
 use mathlib.Core.Bool.{Bool, true, false}
 use mathlib.Core.List.{List, [], _∷_, _++_, map, flatMap, map-append, append-nil, append-assoc}
-use mathlib.Core.Logic.{_≢_, inl, inr, ⊎-elim}
+use mathlib.Core.Logic.{_≢_, ⊎-elim}
 use Prim.Native.Nat.{ℕ, zero, suc, _+_, _*_, _/_, _≤_, _<_}
 use lib.ListN.{length, getD, set, length-set, length-map, length-append}
 use lib.Seq.{getD-set-same, getD-set-other}
@@ -10,7 +10,7 @@ use lib.Dec.{eqb}
 use native.Mathlib.Omega.{arith}
 use native.Mathlib.Nat.{zero-add}
 use native.Mathlib.Numerals.{add-one}
-use borrow.Author.Tests.{eqb-true, eqb-false}
+use borrow.Author.Tests.{eqb-true}
 use Rattle.ways.specs.Graph.{Graph}
 use Rattle.ways.specs.ByHops.{shorterFirst}
 use Rattle.ways.specs.Halves.{personsBelow}
@@ -25,10 +25,10 @@ use Rattle.pages.specs.declared.HandedOver.{HandedOver}
 use Rattle.pages.proofs.Handing.{emits-append, emits-more, emits-counted}
 use Rattle.half_chains.specs.Pages.{page}
 use Rattle.half_chains.specs.Traces.{endingAt, placeOf, Going, Extended}
-use Rattle.half_chains.specs.Shelf.{nothing, Begin, Begun, halvesFrom, halvesBelow, First, Firsts, halvesOf, shelfOf, halvesBefore, Shelve, Shelved, fromOne, waysOf, Gather, Gathered}
+use Rattle.half_chains.specs.Shelf.{nothing, Begin, Begun, halvesFrom, halvesBelow, First, Firsts, halvesOf, shelfOf, Shelve, Shelved, fromOne, waysOf, Gather, Gathered}
 use Rattle.half_chains.specs.declared.traces.Sought.{Sought}
 use Rattle.half_chains.specs.declared.traces.Trace.{Trace}
-use Rattle.half_chains.proofs.Turns.{Over, turn-next, turn-end}
+use Rattle.half_chains.proofs.Turns.{Over, over-all, turn-next, turn-end}
 use Rattle.half_chains.proofs.Steps.{unmarked, taken}
 
 -- ---- `begin`
@@ -142,13 +142,9 @@ module _ {rows targets : List ℕ} {marks : List Bool} {index working : List ℕ
     note-end over = record {
       same = inv .same;
       right = turn-end (halvesBelow (graphOf rows targets) (w .to) marks (w .left)) (halvesFrom (graphOf rows targets) (w .to) marks (w .left)) (below-next (graphOf rows targets) (w .to) marks (w .left)) (recordWith blank 0) (w .writes) (w .room) (page before working) p (inv .right) (inv .within) over;
-      notes = λ z q l. let e : p ≡ n = all z over in rw (← e) (noted z q (omega arith));
+      notes = λ z q l. let e : p ≡ n = over-all (page got working′) over (inv .within) z in rw (← e) (noted z q (omega arith));
       others = λ c h. getD-set-other index′ (placeOf (w .left) n) c (got .count) 0 (h n (omega arith)) ∙ inv .others c h;
     }
-      where
-        all : got .more ≡ 0 → Over p n (page got working′) → p ≡ n
-        all z (inl l) = omega (arith, inv .within)
-        all z (inr m) = absurd (eqb-false (got .more) 0 m z)
 
 -- ---- lists of 1, 2, .. hops
 
@@ -273,16 +269,12 @@ module _ {rows targets : List ℕ} {marks marks₁ : List Bool} {index working w
     same = inv .same ∙ b .same;
     right = rw (shorter-from (halvesOf (graphOf rows targets) (sought .persons) (sought .to) marks) (sought .hops / 2), map-append, emits-append, ← b .right) behind;
     notes = λ z j p h l.
-        let e : hops ≡ sought .hops / 2 = all-over z over in
+        let e : hops ≡ sought .hops / 2 = over-all (page got working′) over (inv .within) z in
         let noted : getD index′ (placeOf (suc j) p) 0 ≡ before .count + length (fromOne (halvesOf (graphOf rows targets) (sought .persons) (sought .to) marks) j ++ halvesBelow (graphOf rows targets) (sought .to) marks (suc j) p) = rw (b .same) at (inv .notes z j p (omega (arith, e)) l) in
         let shelf : length (shelfOf (graphOf rows targets) (sought .persons) (sought .to) marks j) ≡ length (halvesFrom (graphOf rows targets) (sought .to) marks 0 (sought .to)) + length (fromOne (halvesOf (graphOf rows targets) (sought .persons) (sought .to) marks) j) = ap length (shorter-from (halvesOf (graphOf rows targets) (sought .persons) (sought .to) marks) j) ∙ length-append (halvesFrom (graphOf rows targets) (sought .to) marks 0 (sought .to)) (fromOne (halvesOf (graphOf rows targets) (sought .persons) (sought .to) marks) j) in
         omega (arith, noted, shelf, alone z, length-append (fromOne (halvesOf (graphOf rows targets) (sought .persons) (sought .to) marks) j) (halvesBelow (graphOf rows targets) (sought .to) marks (suc j) p), length-append (shelfOf (graphOf rows targets) (sought .persons) (sought .to) marks j) (halvesBelow (graphOf rows targets) (sought .to) marks (suc j) p));
     others = inv .others;
   }
-    where
-      all-over : got .more ≡ 0 → Over hops (sought .hops / 2) (page got working′) → hops ≡ sought .hops / 2
-      all-over z (inl l) = omega (arith, inv .within)
-      all-over z (inr m) = absurd (eqb-false (got .more) 0 m z)
 
 -- ---- `gather`: what was handed over is the chains of fewer hops
 

@@ -2,16 +2,14 @@
 use mathlib.Core.Path.{_≡_, refl, sym, ap, subst, _∙_, fun-ext}
 use mathlib.Core.Bool.{Bool, true, false, cond}
 use mathlib.Core.List.{List, [], _∷_, _++_, map, flatMap, map-map, append-nil, append-assoc, List·Memᴰ·head, List·Memᴰ·tail, List·Memᴰ·not-nil, List·Memᴰ·cases-cons, List·Memᴰ·append-cases, Memᴰ·append-left, Memᴰ·append-right, Memᴰ·of-map}
-use mathlib.Core.Logic.{_≢_, _⊎_, inl, inr, ⊎-elim}
-use Prim.Native.Nat.{ℕ, zero, suc, _+_, _-_, _*_, _/_, _%_, _≤_, _<_}
-use lib.ListN.{length, getD, set, take, drop, replicate, length-append, getD-replicate, List·getD-append, List·getD-eq-default}
-use lib.Seq.{getD-set-other, take-at, drop-append-add, append-snoc}
+use mathlib.Core.Logic.{_⊎_, inl, inr, ⊎-elim}
+use Prim.Native.Nat.{ℕ, zero, suc, _+_, _-_, _*_, _/_, _≤_, _<_}
+use lib.ListN.{length, getD, set, take, drop, replicate, length-append, List·getD-append}
+use lib.Seq.{take-at, drop-append-add, append-snoc}
 use lib.Dec.{eqb, ltb}
 use native.Mathlib.Omega.{arith}
-use native.Mathlib.Nat.{add-zero, add-suc}
-use native.Mathlib.Numerals.{add-one}
 use borrow.Author.Tests.{eq-eqb, ne-eqb, lt-ltb, le-ltb}
-use Rattle.ways.specs.Graph.{Graph, _∈_, among}
+use Rattle.ways.specs.Graph.{_∈_, among}
 use Rattle.ways.specs.Chain.{Last, Linked, hops}
 use Rattle.ways.specs.Records.{recordOf, Fits, cellsOf, written}
 use Rattle.ways.specs.ByHops.{shorterFirst}
@@ -23,11 +21,9 @@ use Rattle.ways.proofs.Members.{flatMap-append}
 use Rattle.ways.proofs.Records.{cellsOf-append, length-cellsOf, length-written}
 use Rattle.ways.proofs.Halves.{persons-below, halves-exact, half-fits}
 use Rattle.ways.proofs.Onward.{onward-from, halfChains-onward}
-use Rattle.compact.specs.Compact.{persons, graphOf, Compact}
-use Rattle.compact.proofs.Rows.{row-none}
+use Rattle.compact.specs.Compact.{persons, graphOf}
 use Rattle.compact.specs.Marks.{Marked}
 use Rattle.compact.proofs.Marking.{marked-more}
-use Rattle.pages.specs.Pages.{blank}
 use Rattle.half_chains.specs.Traces.{restOf, restsOf, placeOf, indexedAt, rightsOf, Indexed}
 use Rattle.half_chains.specs.Shelf.{Seeking, halvesFrom, halvesBelow, halvesOf, shelfOf, halvesBefore}
 use Rattle.half_chains.specs.declared.traces.Sought.{Sought}

@@ -1,6 +1,6 @@
 -- Extending a chain and pairing it with its right halves: one law for each need, named after the place in the code.
 use mathlib.Core.Path.{_≡_, refl, sym, ap, _∙_}
-use mathlib.Core.Bool.{Bool, true, false}
+use mathlib.Core.Bool.{Bool, true, false, cond}
 use mathlib.Core.List.{List, [], _∷_, map, flatMap, map-map}
 use Prim.Native.Nat.{ℕ, zero, suc, _+_, _-_, _*_, _≤_, _<_}
 use lib.ListN.{length, getD, set, take, drop, length-set}
@@ -13,10 +13,10 @@ use Rattle.ways.specs.Graph.{Graph, keep}
 use Rattle.ways.specs.Sizes.{recordSize}
 use Rattle.ways.proofs.Members.{keep-append}
 use Rattle.compact.specs.Compact.{persons, graphOf}
-use Rattle.pages.specs.Pages.{Page, emits, recordWith}
+use Rattle.pages.specs.Pages.{Page, emit, emits, recordWith}
 use Rattle.pages.specs.declared.HandedOver.{HandedOver}
-use Rattle.half_chains.specs.Pages.{page, part, Room, Handed}
-use Rattle.half_chains.specs.Traces.{clear, Persons, restOf, restsOf, placeOf, indexedAt, rightsOf, handed, Pair, Paired, Meet, Met, Ready, Arrived, following, taking, Going, Extended}
+use Rattle.half_chains.specs.Pages.{page, part, Room, Handed, Ending, Ended}
+use Rattle.half_chains.specs.Traces.{clear, Persons, restOf, restsOf, placeOf, indexedAt, rightsOf, Indexed, Open, handed, Ready, Arrived, following, taking, Going, Extended}
 use Rattle.half_chains.specs.declared.traces.Trace.{Trace}
 use Rattle.half_chains.proofs.Turns.{Over, turn-on, turn-over}
 
@@ -58,30 +58,7 @@ module _ {halves : List ℕ} {marks : List Bool} {from count i : ℕ} (k : Perso
       let n : count - i ≡ 0 = omega arith in
       rw n at (inv .right)
 
--- ---- `pair`
-
-module _ {halves : List ℕ} {marks : List Bool} {out chain : List ℕ} {w : Trace} {half : ℕ} {before : HandedOver} (k : Pair halves marks out chain w half before) where
-  pub pair-persons : Persons halves marks (half * recordSize + 2) (w .rest)
-  pair-persons = record { wide = k .opens .wide; there = omega (arith, k .there, k .opens .short, k .opens .some); people = λ c h. k .people c (omega (arith, k .opens .short, k .opens .some, h)) }
-
-  pub pair-room : Room halves out chain w (half * recordSize + 2) before
-  pair-room = record { room = k .opens .room; there = pair-persons .there; long = k .opens .long; some = k .opens .some; short = omega (arith, k .opens .short); none = k .opens .none }
-
-  pub pair-shared : false ≡ clear marks (restOf halves (w .rest) half) → Paired halves marks out out chain w half before before
-  unfolding keep emits
-  pair-shared e = record { right = rw (← e) }
-
-  pub pair-joined : {out′ : List ℕ} {r : HandedOver} → true ≡ clear marks (restOf halves (w .rest) half) → Handed halves out out′ chain w (half * recordSize + 2) before r → Paired halves marks out out′ chain w half before r
-  unfolding keep emits
-  pair-joined e h = record { right = rw (← e) (h .right) }
-
--- ---- `meet`: what was handed over, with the right halves still to come, is all
-
-pub record Pairing (halves index : List ℕ) (marks : List Bool) (out₀ chain : List ℕ) (w : Trace) (end : ℕ) (before : HandedOver) (out : List ℕ) (half : ℕ) (got : HandedOver) : Type 0 where
-  pub meet : Meet halves index marks out₀ chain w before
-  pub ends : end ≡ getD index (placeOf (w .rest) (w .last) + 1) 0
-  pub long : length out ≡ length out₀
-  pub right : handed chain w (page got out) (keep (clear marks) (restsOf halves (w .rest) half (end - half))) ≡ handed chain w (page before out₀) (keep (clear marks) (indexedAt halves index (w .rest) (w .last)))
+-- ---- `arrive`: what was handed over, with the right halves still to come, is all
 
 rests-cons : (halves : List ℕ) (rest half end : ℕ) → half < end → restsOf halves rest half (end - half) ≡ restOf halves rest half ∷ restsOf halves rest (half + 1) (end - (half + 1))
 unfolding restsOf
@@ -89,61 +66,74 @@ rests-cons halves rest half end lt =
     let n : end - half ≡ suc (end - (half + 1)) = omega arith in
     rw (n, add-one half)
 
-module _ {halves index : List ℕ} {marks : List Bool} {out chain : List ℕ} {w : Trace} {before : HandedOver} where
-  module _ (k : Meet halves index marks out chain w before) where
-    pub meet-place : placeOf (w .rest) (w .last) + 1 < length index
-    meet-place = omega (arith, k .indexed .within, k .opens .place)
+pub record Pairing (halves index : List ℕ) (marks : List Bool) (out₀ chain : List ℕ) (w : Trace) (end : ℕ) (before : HandedOver) (out : List ℕ) (half : ℕ) (got : HandedOver) : Type 0 where
+  pub opens : Open marks out₀ chain w before
+  pub indexed : Indexed halves index (w .rest)
+  pub ends : end ≡ getD index (placeOf (w .rest) (w .last) + 1) 0
+  pub long : length out ≡ length out₀
+  pub right : handed chain w (page got out) (keep (clear marks) (restsOf halves (w .rest) half (end - half))) ≡ handed chain w (page before out₀) (keep (clear marks) (indexedAt halves index (w .rest) (w .last)))
 
-    pub meet-start : Pairing halves index marks out chain w (getD index (placeOf (w .rest) (w .last) + 1) 0) before out (getD index (placeOf (w .rest) (w .last)) 0) before
-    meet-start = record { meet = k; ends = refl; long = refl; right = refl }
+module _ {halves index : List ℕ} {marks : List Bool} {out chain : List ℕ} {w : Trace} {before : HandedOver} where
+  module _ (k : Ready halves index marks out chain w before) where
+    -- no hop is left for a right half
+    pub arrive-ending : w .rest ≡ 0 → Ending halves out chain w before
+    arrive-ending e = record { room = record { room = k .opens .room; there = omega (arith, e); long = k .opens .long; some = k .opens .some; short = omega (arith, k .opens .short); none = k .opens .none }; whole = e }
+
+    pub arrive-ended : {out′ : List ℕ} {after : HandedOver} → w .rest ≡ 0 → Ended out out′ chain w before after → Arrived halves index marks out out′ chain w before after
+    unfolding keep clear emits
+    arrive-ended {out′} {after} e d = record { right = rw (eq-eqb (w .rest) 0 e) (go (eqb (w .last) (w .to)) (d .right)) }
+      where
+        go : (b : Bool) → page after out′ ≡ cond b (emit (w .writes) (w .room) (page before out) (recordWith chain (w .len) [])) (page before out) → page after out′ ≡ handed chain w (page before out) (keep (clear marks) (cond b ([] ∷ []) []))
+        go true r = r
+        go false r = r
+
+    pub arrive-place : (w .rest ≡ 0 → ⊥) → (1 ≤ w .rest) × (placeOf (w .rest) (w .last) + 1 < length index)
+    arrive-place n = (k .indexed n .some, omega (arith, k .indexed n .within, k .opens .place))
+
+    pub arrive-start : (w .rest ≡ 0 → ⊥) → Pairing halves index marks out chain w (getD index (placeOf (w .rest) (w .last) + 1) 0) before out (getD index (placeOf (w .rest) (w .last)) 0) before
+    arrive-start n = record { opens = k .opens; indexed = k .indexed n; ends = refl; long = refl; right = refl }
 
   module _ {end : ℕ} {out′ : List ℕ} {half : ℕ} {got : HandedOver} (inv : Pairing halves index marks out chain w end before out′ half got) where
-    pub meet-pair : half < end → eqb (got .more) 0 ≡ true → Pair halves marks out′ chain w half got
-    meet-pair lt none =
-        let o = inv .meet .opens in
-        let d = inv .meet .indexed in
+    pub pair-fits : half < end → half * recordSize + recordSize ≤ length halves
+    pair-fits lt = omega (arith, inv .indexed .there (w .last) (inv .opens .place), inv .ends)
+
+    pub pair-persons : half < end → Persons halves marks (half * recordSize + 2) (w .rest)
+    pair-persons lt =
+        let o = inv .opens in
         record {
-          opens = record { wide = o .wide; room = omega (arith, o .room, inv .long); long = o .long; some = o .some; short = o .short; place = o .place; none = eqb-true (got .more) 0 none };
-          there = omega (arith, d .there (w .last) (o .place), inv .ends);
-          people = λ c h. d .people (w .last) (o .place) c (omega (arith, inv .ends, lt, h));
+          wide = o .wide;
+          there = omega (arith, pair-fits lt, o .short, o .some);
+          people = λ c h. inv .indexed .people (w .last) (o .place) c (omega (arith, inv .ends, lt, h, o .short, o .some));
         }
 
-    pub meet-fits : half < end → half + 1 ≤ length halves
-    meet-fits lt = omega (arith, inv .meet .indexed .there (w .last) (inv .meet .opens .place), inv .ends)
+    pub pair-room : half < end → eqb (got .more) 0 ≡ true → Room halves out′ chain w (half * recordSize + 2) got
+    pair-room lt none =
+        let o = inv .opens in
+        record { room = omega (arith, o .room, inv .long); there = pair-persons lt .there; long = o .long; some = o .some; short = omega (arith, o .short); none = eqb-true (got .more) 0 none }
 
-    pub meet-turn : {out″ : List ℕ} {got′ : HandedOver} → half < end → Paired halves marks out′ out″ chain w half got got′ → length out″ ≡ length out′ → Pairing halves index marks out chain w end before out″ (half + 1) got′
-    meet-turn {out″} {got′} lt p long = record {
-      meet = inv .meet;
+    -- what the right half of this number hands over
+    paired : {out″ : List ℕ} {got′ : HandedOver} → half < end → length out″ ≡ length out′ → page got′ out″ ≡ handed chain w (page got out′) (keep (clear marks) (restOf halves (w .rest) half ∷ [])) → Pairing halves index marks out chain w end before out″ (half + 1) got′
+    paired lt long p = record {
+      opens = inv .opens;
+      indexed = inv .indexed;
       ends = inv .ends;
       long = long ∙ inv .long;
-      right = turn-on (recordWith chain (w .len)) (w .writes) (w .room) (page got out′) (keep (clear marks) (restOf halves (w .rest) half ∷ [])) (keep (clear marks) (restsOf halves (w .rest) (half + 1) (end - (half + 1)))) (rw (← keep-append) (rw (rests-cons halves (w .rest) half end lt) at (inv .right))) (p .right);
+      right = turn-on (recordWith chain (w .len)) (w .writes) (w .room) (page got out′) (keep (clear marks) (restOf halves (w .rest) half ∷ [])) (keep (clear marks) (restsOf halves (w .rest) (half + 1) (end - (half + 1)))) (rw (← keep-append) (rw (rests-cons halves (w .rest) half end lt) at (inv .right))) p;
     }
 
-    pub meet-end : Over half end (page got out′) → Met halves index marks out out′ chain w before got
+    pub pair-joined : {out″ : List ℕ} {got′ : HandedOver} → half < end → true ≡ clear marks (restOf halves (w .rest) half) → Handed halves out′ out″ chain w (half * recordSize + 2) got got′ → length out″ ≡ length out′ → Pairing halves index marks out chain w end before out″ (half + 1) got′
+    unfolding keep emits
+    pair-joined lt e h long = paired lt long (rw (← e) (h .right))
+
+    pub pair-shared : half < end → false ≡ clear marks (restOf halves (w .rest) half) → Pairing halves index marks out chain w end before out′ (half + 1) got
+    unfolding keep emits
+    pair-shared lt e = paired lt refl (rw (← e))
+
+    pub arrive-end : Over half end (page got out′) → Arrived halves index marks out out′ chain w before got
     unfolding restsOf keep
-    meet-end over = record {
-      right = turn-over (recordWith chain (w .len)) (w .writes) (w .room) (page got out′) (keep (clear marks) (restsOf halves (w .rest) half (end - half))) (inv .right) (λ (l : end ≤ half). let n : end - half ≡ 0 = omega arith in rw n) over;
+    arrive-end over = record {
+      right = rw (ne-eqb (w .rest) 0 (λ e. omega (arith, e, inv .indexed .some))) (turn-over (recordWith chain (w .len)) (w .writes) (w .room) (page got out′) (keep (clear marks) (restsOf halves (w .rest) half (end - half))) (inv .right) (λ (l : end ≤ half). let n : end - half ≡ 0 = omega arith in rw n) over);
     }
-
--- ---- `arrive`: by the index, or by To
-
-module _ {halves index : List ℕ} {marks : List Bool} {out chain : List ℕ} {w : Trace} {before : HandedOver} (k : Ready halves index marks out chain w before) where
-  pub arrive-meet : (w .rest ≡ 0 → ⊥) → Meet halves index marks out chain w before
-  arrive-meet n = record { opens = k .opens; indexed = k .indexed n }
-
-  pub arrive-met : {out′ : List ℕ} {after : HandedOver} → (w .rest ≡ 0 → ⊥) → Met halves index marks out out′ chain w before after → Arrived halves index marks out out′ chain w before after
-  arrive-met n m = record { right = rw (ne-eqb (w .rest) 0 n) (m .right) }
-
-  pub arrive-elsewhere : w .rest ≡ 0 → (w .last ≡ w .to → ⊥) → Arrived halves index marks out out chain w before before
-  unfolding keep emits
-  arrive-elsewhere e n = record { right = rw (eq-eqb (w .rest) 0 e, ne-eqb (w .last) (w .to) n) }
-
-  pub arrive-room : w .rest ≡ 0 → Room halves out chain w 0 before
-  arrive-room e = record { room = k .opens .room; there = omega (arith, e); long = k .opens .long; some = k .opens .some; short = omega (arith, k .opens .short); none = k .opens .none }
-
-  pub arrive-whole : {out′ : List ℕ} {after : HandedOver} → w .rest ≡ 0 → w .last ≡ w .to → Handed halves out out′ chain w 0 before after → Arrived halves index marks out out′ chain w before after
-  unfolding keep clear emits
-  arrive-whole e t h = record { right = rw (eq-eqb (w .rest) 0 e, eq-eqb (w .last) (w .to) t) (rw e at (h .right)) }
 
 -- ---- `extend`
 

@@ -16,6 +16,11 @@ use Rattle.pages.proofs.Handing.{emits-append, emits-more}
 abbrev pub Over : ℕ → ℕ → Page → Type 0
 Over i n now = (n ≤ i) ⊎ (eqb (now .more) 0 ≡ false)
 
+-- with nothing noted, there is no next piece
+pub over-all : {i n : ℕ} (now : Page) → Over i n now → i ≤ n → now .more ≡ 0 → i ≡ n
+over-all now (inl l) h z = omega arith
+over-all now (inr m) h z = absurd (eqb-false (now .more) 0 m z)
+
 -- ---- by what is still to come
 
 module _ (records : List ℕ → List ℕ) (writes room : ℕ) (now : Page) {all : Page} where

@@ -12,7 +12,7 @@ use Rattle.pages.specs.Pages.{recordWith}
 use Rattle.pages.specs.declared.HandedOver.{HandedOver}
 use Rattle.pages.proofs.Copying.{Copying, copy-turn, paste-set}
 use Rattle.pages.proofs.Recording.{recordWith-paste}
-use Rattle.half_chains.specs.Pages.{part, Behind, Room, Handed}
+use Rattle.half_chains.specs.Pages.{part, Behind, Room, Handed, Ending, Ended}
 use Rattle.half_chains.specs.declared.traces.Trace.{Trace}
 
 -- ---- `append`
@@ -82,3 +82,11 @@ module _ {halves out chain : List ℕ} {w : Trace} {from : ℕ} {before : Handed
   hand-put h n e f = record {
     right = rw (eq-eqb (before .more) 0 (k .none), lt-ltb (before .count) (w .room) h, ne-eqb (w .writes) 0 n, f, e, put-record out (before .count * recordSize) chain (w .len) halves from (w .rest) (hand-fits h) (k .long) (k .there) (k .short));
   }
+
+-- without a right half
+module _ {halves out chain : List ℕ} {w : Trace} {before : HandedOver} (k : Ending halves out chain w before) where
+  pub end-elsewhere : (w .last ≡ w .to → ⊥) → Ended out out chain w before before
+  end-elsewhere n = record { right = rw (ne-eqb (w .last) (w .to) n) }
+
+  pub end-whole : {out′ : List ℕ} {after : HandedOver} → w .last ≡ w .to → Handed halves out out′ chain w 0 before after → Ended out out′ chain w before after
+  end-whole t h = record { right = rw (eq-eqb (w .last) (w .to) t) (rw (k .whole) at (h .right)) }

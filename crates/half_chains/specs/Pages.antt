@@ -1,8 +1,10 @@
 -- Handing over a chain of the join: what it asks, and what it does. Definitions only.
 use mathlib.Core.Path.{_≡_}
-use mathlib.Core.List.{List}
+use mathlib.Core.Bool.{cond}
+use mathlib.Core.List.{List, []}
 use Prim.Native.Nat.{ℕ, _+_, _*_, _≤_, _<_}
 use lib.ListN.{length, take, drop}
+use lib.Dec.{eqb}
 use lib.Seq.{paste}
 use Rattle.ways.specs.Sizes.{recordSize}
 use Rattle.pages.specs.Pages.{Page, emit, recordWith}
@@ -37,3 +39,12 @@ pub record Room (halves out chain : List ℕ) (w : Trace) (from : ℕ) (before :
 -- what handing over does: the record of the chain with so many persons of the half chain behind it
 pub record Handed (halves out out′ chain : List ℕ) (w : Trace) (from : ℕ) (before after : HandedOver) : Type 0 where
   pub right : page after out′ ≡ emit (w .writes) (w .room) (page before out) (recordWith chain (w .len) (part halves from (w .rest)))
+
+-- a sequence without a right half behind it
+pub record Ending (halves out chain : List ℕ) (w : Trace) (before : HandedOver) : Type 0 where
+  pub room : Room halves out chain w 0 before
+  pub whole : w .rest ≡ 0
+
+-- it is handed over if To stands last
+pub record Ended (out out′ chain : List ℕ) (w : Trace) (before after : HandedOver) : Type 0 where
+  pub right : page after out′ ≡ cond (eqb (w .last) (w .to)) (emit (w .writes) (w .room) (page before out) (recordWith chain (w .len) [])) (page before out)

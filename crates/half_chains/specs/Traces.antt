@@ -72,23 +72,6 @@ pub record Open (marks : List Bool) (out chain : List ℕ) (w : Trace) (before :
 abbrev pub handed : List ℕ → Trace → Page → List (List ℕ) → Page
 handed chain w s ws = emits (w .writes) (w .room) s (map (recordWith chain (w .len)) ws)
 
--- one right half
-pub record Pair (halves : List ℕ) (marks : List Bool) (out chain : List ℕ) (w : Trace) (half : ℕ) (before : HandedOver) : Type 0 where
-  pub opens : Open marks out chain w before
-  pub there : half * recordSize + recordSize ≤ length halves
-  pub people : (c : ℕ) → c < half * recordSize + recordSize → getD halves c 0 < persons
-
-pub record Paired (halves : List ℕ) (marks : List Bool) (out out′ chain : List ℕ) (w : Trace) (half : ℕ) (before after : HandedOver) : Type 0 where
-  pub right : page after out′ ≡ handed chain w (page before out) (keep (clear marks) (restOf halves (w .rest) half ∷ []))
-
--- each right half that the index has for the last person
-pub record Meet (halves index : List ℕ) (marks : List Bool) (out chain : List ℕ) (w : Trace) (before : HandedOver) : Type 0 where
-  pub opens : Open marks out chain w before
-  pub indexed : Indexed halves index (w .rest)
-
-pub record Met (halves index : List ℕ) (marks : List Bool) (out out′ chain : List ℕ) (w : Trace) (before after : HandedOver) : Type 0 where
-  pub right : page after out′ ≡ handed chain w (page before out) (keep (clear marks) (indexedAt halves index (w .rest) (w .last)))
-
 -- each right half that starts at the last person: the index is asked only for those that have a hop
 pub record Ready (halves index : List ℕ) (marks : List Bool) (out chain : List ℕ) (w : Trace) (before : HandedOver) : Type 0 where
   pub opens : Open marks out chain w before

@@ -22,12 +22,13 @@ pub fn gather(
     requires { ⌜ Gather (now rows) (now targets) (now halves) (now index) (now marks) (now out) sought ⌝ }
     ensures { λ r. ⌜ Gathered (now (rows .entry)) (now (targets .entry)) (now (halves .entry)) (now (index .entry)) (now (marks .entry)) (now (marks .exit)) (now (out .entry)) (now (out .exit)) sought r ⌝ }
 {
+    let hops = sought.hops;
     let room = out.len() / RECORD;
     let mut chain = [0u32; RECORD];
     chain[1] = sought.from as u32;
     let mut got = HandedOver { count: 0, more: 0 };
     let mut length = 0;
-    while length < sought.hops && got.more == 0 {
+    while length < hops && got.more == 0 {
         length += 1;
         let left = (length + 1) / 2;
         let trace = Trace {

@@ -1,7 +1,7 @@
 // A left half has come to its middle person: it is paired with each right half that starts there.
 ghost use mathlib.Core.Path.{_≡_};
 ghost use Rattle.half_chains.specs.Pages.{part};
-ghost use Rattle.half_chains.specs.Traces.{clear, Persons, Pair, Paired, Meet, Met, Ready, Arrived};
+ghost use Rattle.half_chains.specs.Traces.{clear, Persons, Ready, Arrived};
 use crate::traces::Trace;
 use compact::PERSONS;
 use compact::STARTS;
@@ -24,51 +24,8 @@ fn apart(halves: &[u32], marks: &[bool; PERSONS], from: usize, count: usize) -> 
     true
 }
 
-// Joins the left half with the right half of this number, if they share only the middle person.
-fn pair(
-    halves: &[u32],
-    marks: &[bool; PERSONS],
-    out: &mut [u32],
-    chain: [u32; RECORD],
-    trace: Trace,
-    half: usize,
-    before: HandedOver,
-) -> HandedOver
-    requires { ⌜ Pair (now halves) (now marks) (now out) chain trace half before ⌝ }
-    ensures { λ r. ⌜ Paired (now (halves .entry)) (now (marks .entry)) (now (out .entry)) (now (out .exit)) chain trace half before r ⌝ }
-{
-    let from = half * RECORD + 2;
-    if !apart(halves, marks, from, trace.rest) {
-        return before;
-    }
-    crate::records::hand_over(halves, out, chain, trace, from, before)
-}
-
-// Joins the left half with each right half that starts at its last person: the index says where they stand.
-fn meet(
-    halves: &[u32],
-    index: &[usize],
-    marks: &[bool; PERSONS],
-    out: &mut [u32],
-    chain: [u32; RECORD],
-    trace: Trace,
-    before: HandedOver,
-) -> HandedOver
-    requires { ⌜ Meet (now halves) (now index) (now marks) (now out) chain trace before ⌝ }
-    ensures { λ r. ⌜ Met (now (halves .entry)) (now (index .entry)) (now (marks .entry)) (now (out .entry)) (now (out .exit)) chain trace before r ⌝ }
-{
-    let place = (trace.rest - 1) * STARTS + trace.last;
-    let mut half = index[place];
-    let end = index[place + 1];
-    let mut got = before;
-    while half < end && got.more == 0 {
-        got = pair(halves, marks, out, chain, trace, half, got);
-        half += 1;
-    }
-    got
-}
-
-// The sequence is as long as it has to be: without a right half it is whole if it ends at To.
+// Joins the left half with each right half that starts at its last person and shares nobody else with it: the index says where they
+// stand. Where no hop is left for a right half, the sequence is whole by itself, or not at all.
 pub fn arrive(
     halves: &[u32],
     index: &[usize],
@@ -81,11 +38,19 @@ pub fn arrive(
     requires { ⌜ Ready (now halves) (now index) (now marks) (now out) chain trace before ⌝ }
     ensures { λ r. ⌜ Arrived (now (halves .entry)) (now (index .entry)) (now (marks .entry)) (now (out .entry)) (now (out .exit)) chain trace before r ⌝ }
 {
-    if trace.rest != 0 {
-        return meet(halves, index, marks, out, chain, trace, before);
+    if trace.rest == 0 {
+        return crate::records::end(halves, out, chain, trace, before);
     }
-    if trace.last != trace.to {
-        return before;
+    let place = (trace.rest - 1) * STARTS + trace.last;
+    let mut half = index[place];
+    let end = index[place + 1];
+    let mut got = before;
+    while half < end && got.more == 0 {
+        let from = half * RECORD + 2;
+        half += 1;
+        if apart(halves, marks, from, trace.rest) {
+            got = crate::records::hand_over(halves, out, chain, trace, from, got);
+        }
     }
-    crate::records::hand_over(halves, out, chain, trace, 0, before)
+    got
 }

@@ -1,5 +1,5 @@
 // Handing over a chain: it is counted, its record is written, or it is the one more for which there is no room.
-ghost use Rattle.half_chains.specs.Pages.{Behind, Follows, Room, Handed};
+ghost use Rattle.half_chains.specs.Pages.{Behind, Follows, Room, Handed, Ending, Ended};
 use crate::traces::Trace;
 use pages::HandedOver;
 use ways::RECORD;
@@ -49,4 +49,21 @@ pub fn hand_over(
         count: count + 1,
         more: 0,
     }
+}
+
+// Hands over a sequence that no right half stands behind, if it ends at To.
+pub fn end(
+    halves: &[u32],
+    out: &mut [u32],
+    chain: [u32; RECORD],
+    trace: Trace,
+    before: HandedOver,
+) -> HandedOver
+    requires { ⌜ Ending (now halves) (now out) chain trace before ⌝ }
+    ensures { λ r. ⌜ Ended (now (out .entry)) (now (out .exit)) chain trace before r ⌝ }
+{
+    if trace.last != trace.to {
+        return before;
+    }
+    hand_over(halves, out, chain, trace, 0, before)
 }

@@ -12,7 +12,7 @@ use borrow.Author.Tests.{lt-ltb, le-ltb, le-leb, lt-leb}
 use Rattle.ways.specs.Graph.{_∈_, keep}
 use Rattle.ways.specs.Listing.{ways, listing}
 use Rattle.ways.specs.Records.{recordOf, Fits, written}
-use Rattle.ways.specs.ByHops.{shorterFirst, chainsOf, byHops}
+use Rattle.ways.specs.ByHops.{chainsOf, byHops}
 use Rattle.ways.specs.Halves.{halfChains}
 use Rattle.ways.specs.Join.{leftHops, rightHops, joined}
 use Rattle.ways.specs.Sizes.{recordSize, mostHops}

@@ -8,31 +8,31 @@ use Rattle.half_chains.proofs.chains.gather.Statement.{statement}
 use Rattle.half_chains.proofs.chains.gather.Tie as tie
 
 abbrev Inv-loop : tie.InvT-loop
-Inv-loop rows targets halves index marks₀ out₀ sought room chain got₀ length₀ marks out got length = Gathering rows targets halves index marks₀ out₀ sought marks out got length
+Inv-loop rows targets halves index marks₀ out₀ sought hops room chain got₀ length₀ marks out got length = Gathering rows targets halves index marks₀ out₀ sought marks out got length
 
 abbrev μ-loop : tie.MeasureT-loop
-μ-loop rows targets halves index marks₀ out₀ sought room chain got₀ length₀ marks out got length = sought .hops - length
+μ-loop rows targets halves index marks₀ out₀ sought hops room chain got₀ length₀ marks out got length = hops - length
 
 cast-chain : tie.Need-cast-chain Inv-loop μ-loop
 cast-chain c = omega (arith, c .before .before .before .before .pre .seeking .source, c .before .before .before .before .pre .seeking .known)
 
 add-length : tie.Need-add-length Inv-loop μ-loop
-add-length c = omega (arith, c .before .before .before .before .loop .inv .gather .seeking .few, c .before .before .if1 .taken)
+add-length c = omega (arith, c .before .before .before .loop .inv .gather .seeking .few, c .before .before .loop-test .taken)
 
 add-left : tie.Need-add-left Inv-loop μ-loop
 add-left c = omega (arith, add-length c)
 
 extend-requires : tie.Need-extend-requires Inv-loop μ-loop
-extend-requires c κs = gather-going (c .before .before .before .before .before .before .loop .inv) (c .before .before .before .before .if1 .taken) (c .before .before .if2 .taken)
+extend-requires c κs = gather-going (c .before .before .before .before .before .loop .inv) (c .before .before .before .before .loop-test .taken) (c .before .before .if1 .taken)
 
 loop-again : tie.Need-loop-again Inv-loop μ-loop
 loop-again c =
-    let at-extend = c .before .before .extend in
-    gather-turn (c .before .before .before .before .before .before .before .before .before .loop .inv) (c .before .before .before .before .before .before .before .if1 .taken) (at-extend .ensures) (at-extend .kept .1 .1 .1 .1 .1 .0)
+    let extended = c .before .before .extend in
+    gather-turn (c .before .before .before .before .before .before .before .before .loop .inv) (c .before .before .before .before .before .before .before .loop-test .taken) (extended .ensures) (extended .kept .1 .1 .1 .1 .1 .0)
 
 pub gather-spec : {M : Type 1} → statement M
 gather-spec =
     tie.close
     (tie.spec Inv-loop μ-loop cast-chain (λ c. search needs) (λ c. gather-start (c .before .before .before .before .pre)) add-length add-left (λ c. omega arith) extend-requires
-    (λ c. search needs) loop-again (λ c. c .before .before .before .before .loop .inv .long) (λ c. gather-end (c .before .before .before .before .loop .inv) (inr (c .if2 .left)))
-    (λ c. c .before .before .loop .inv .long) (λ c. gather-end (c .before .before .loop .inv) (inl (c .if1 .left))))
+    (λ c. search needs) loop-again (λ c. c .before .before .before .loop .inv .long) (λ c. gather-end (c .before .before .before .loop .inv) (inr (c .if1 .left)))
+    (λ c. c .before .loop .inv .long) (λ c. gather-end (c .before .loop .inv) (inl (c .loop-test .left))))

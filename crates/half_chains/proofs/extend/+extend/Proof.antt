@@ -3,7 +3,6 @@ use borrow.Author.Needs.{needs}
 use native.Mathlib.Omega.{arith}
 use borrow.Author.Tests.{not-true, not-false}
 use mathlib.Core.Logic.{inl, inr}
-use mathlib.Core.Path.{_∙_}
 use Prim.Native.Nat.{ℕ, _-_, _<_}
 use Rattle.half_chains.proofs.Steps.{Turning, extend-arrived, extend-start, extend-person, extend-going, extend-skip, extend-turn, extend-end}
 use borrow.Fn.Kinds.{In}

@@ -1,6 +1,5 @@
 -- What was handed over is the half chains of at most so many hops, and the index says before whose how many stand.
 use borrow.Author.Needs.{needs}
-use native.Mathlib.Omega.{arith}
 use mathlib.Core.Logic.{inl, inr}
 use mathlib.Core.Path.{_∙_}
 use Prim.Native.Nat.{_-_}
