@@ -16,7 +16,7 @@ use Rattle.compact.specs.Compact.{persons, graphOf, Compact}
 use Rattle.compact.specs.Marks.{Marked}
 use Rattle.compact.proofs.Rows.{row-people}
 use Rattle.compact.proofs.Marking.{marked-more}
-use Rattle.half_chains.specs.Walks.{clear, following, taking}
+use Rattle.half_chains.specs.Traces.{clear, endingAt, following, taking}
 
 -- ---- rows in parts
 
@@ -52,19 +52,16 @@ clear-none m (v ∷ w) = rw (m .each v, clear-none m w)
 
 -- ---- half chains: what follows ends at To
 
-abbrev pub atEnd : ℕ → ℕ → List (List ℕ)
-atEnd t p = cond (eqb p t) ([] ∷ []) []
-
-module _ {rows targets : List ℕ} (k : Compact rows targets) (t : ℕ) (rights : ℕ → List (List ℕ)) (ends : (p : ℕ) → p < persons → rights p ≡ atEnd t p) where
-  pub following-onward : (i : ℕ) (marks : List Bool) (seen : List ℕ) (p : ℕ) → Marked marks seen → p < persons → following (graphOf rows targets) rights i marks p ≡ onward (graphOf rows targets) (λ q. eqb q t) i seen p
-  unfolding following onward keep clear
-  following-onward zero marks seen p m l = ap (keep (clear marks)) (ends p l) ∙ go (eqb p t)
-    where
-      go : (b : Bool) → keep (clear marks) (cond b ([] ∷ []) []) ≡ cond b ([] ∷ []) []
-      go true = refl
-      go false = refl
-  following-onward (suc i) marks seen p m l =
-      flatMap-same _ _ (graphOf rows targets p) (λ v j. let h = row-people p k l j in rw (m .each v, following-onward i (set marks v true) (v ∷ seen) v (marked-more v h m) h))
+pub following-onward : {rows targets : List ℕ} (k : Compact rows targets) (t i : ℕ) (marks : List Bool) (seen : List ℕ) (p : ℕ) → Marked marks seen → p < persons
+    → following (graphOf rows targets) (endingAt t) i marks p ≡ onward (graphOf rows targets) (λ q. eqb q t) i seen p
+unfolding following onward keep clear
+following-onward k t zero marks seen p m l = go (eqb p t)
+  where
+    go : (b : Bool) → keep (clear marks) (cond b ([] ∷ []) []) ≡ cond b ([] ∷ []) []
+    go true = refl
+    go false = refl
+following-onward {rows} {targets} k t (suc i) marks seen p m l =
+    flatMap-same _ _ (graphOf rows targets p) (λ v j. let h = row-people p k l j in rw (m .each v, following-onward k t i (set marks v true) (v ∷ seen) v (marked-more v h m) h))
 
 -- ---- chains: a left half, and the right halves that start where it ends
 

@@ -2,14 +2,17 @@
 use mathlib.Core.Path.{_≡_, refl, sym, ap, _∙_}
 use mathlib.Core.Bool.{Bool, true, false}
 use mathlib.Core.List.{List, [], _∷_, _++_, map, flatMap, map-append, append-nil, append-assoc}
-use mathlib.Core.Logic.{⊎-elim}
-use Prim.Native.Nat.{ℕ, zero, suc, _+_, _/_, _%_, _≤_, _<_}
-use lib.ListN.{length, getD, set, length-set, length-map, getD-replicate}
+use mathlib.Core.Logic.{_≢_, ⊎-elim}
+use Prim.Native.Nat.{ℕ, zero, suc, _+_, _*_, _/_, _≤_, _<_}
+use lib.ListN.{length, getD, set, length-set, length-map, length-append}
 use lib.Seq.{getD-set-same, getD-set-other}
+use lib.Dec.{eqb}
 use native.Mathlib.Omega.{arith}
+use native.Mathlib.Nat.{zero-add}
 use native.Mathlib.Numerals.{add-one}
-use native.Mathlib.Decide.{decLe}
+use borrow.Author.Tests.{eqb-true}
 use Rattle.ways.specs.Graph.{Graph}
+use Rattle.ways.specs.ByHops.{shorterFirst}
 use Rattle.ways.specs.Halves.{personsBelow}
 use Rattle.ways.specs.Join.{leftHops, rightHops}
 use Rattle.ways.specs.Sizes.{recordSize}
@@ -18,238 +21,311 @@ use Rattle.ways.proofs.Members.{flatMap-append}
 use Rattle.ways.proofs.Join.{right-within}
 use Rattle.compact.specs.Compact.{persons, graphOf}
 use Rattle.pages.specs.Pages.{Page, emits, blank, recordWith}
-use Rattle.half_chains.specs.Pages.{page}
-use Rattle.half_chains.specs.Walks.{rightsOf, Going, Extended}
-use Rattle.half_chains.specs.Shelf.{Lone, Ended, nothing, Begin, Begun, halvesAt, halvesBefore, Shelve, Shelved, fromOne, waysOf, Gather, Gathered}
-use Rattle.half_chains.specs.declared.extend.Walk.{Walk}
-use Rattle.half_chains.specs.declared.extend.Found.{Found}
+use Rattle.pages.specs.declared.HandedOver.{HandedOver}
 use Rattle.pages.proofs.Handing.{emits-append, emits-more, emits-counted}
+use Rattle.half_chains.specs.Pages.{page}
+use Rattle.half_chains.specs.Traces.{endingAt, placeOf, Going, Extended}
+use Rattle.half_chains.specs.Shelf.{nothing, Begin, Begun, halvesFrom, halvesBelow, First, Firsts, halvesOf, shelfOf, Shelve, Shelved, fromOne, waysOf, Gather, Gathered}
+use Rattle.half_chains.specs.declared.traces.Sought.{Sought}
+use Rattle.half_chains.specs.declared.traces.Trace.{Trace}
+use Rattle.half_chains.proofs.Turns.{Over, over-all, turn-next, turn-end}
 use Rattle.half_chains.proofs.Steps.{unmarked, taken}
-
--- ---- `lone`: the index is 1 behind To, as far as it is filled
-
-pub record Alone (to : ℕ) (ending : List ℕ) (p : ℕ) : Type 0 where
-  pub behind : to < p
-  pub within : p ≤ suc persons
-  pub long : length ending ≡ suc persons
-  pub low : (q : ℕ) → q ≤ to → getD ending q 0 ≡ 0
-  pub high : (q : ℕ) → to < q → q < p → getD ending q 0 ≡ 1
-
-pub alone-start : {ending : List ℕ} {to : ℕ} → Lone ending to → Alone to ending (to + 1)
-alone-start {ending} {to} k = record {
-  behind = omega arith;
-  within = omega (arith, k .place);
-  long = ap length (k .fresh);
-  low = λ q h. ap (λ (l : List ℕ). getD l q 0) (k .fresh) ∙ getD-replicate (suc persons) q 0 0 (omega (arith, k .place));
-  high = λ q h i. absurd (omega arith);
-}
-
-pub alone-turn : {to : ℕ} {ending : List ℕ} {p : ℕ} → Alone to ending p → p < suc persons → Alone to (set ending p 1) (p + 1)
-alone-turn {to} {ending} {p} k lt = record {
-  behind = omega (arith, k .behind);
-  within = omega arith;
-  long = length-set ending p 1 ∙ k .long;
-  low = λ q h. getD-set-other ending p q 1 0 (λ e. omega (arith, k .behind)) ∙ k .low q h;
-  high = λ q h i.
-      ⊎-elim
-      (λ e. rw e (getD-set-same ending p 1 0 (omega (arith, k .long))))
-      (λ n. getD-set-other ending p q 1 0 n ∙ k .high q h (omega (arith, n)))
-      (same-or-not q p);
-}
-
-pub alone-end : {to : ℕ} {ending : List ℕ} {p : ℕ} → Alone to ending p → suc persons ≤ p → Ended ending to
-alone-end k h = record { long = k .long; low = k .low; high = λ q i j. k .high q i (omega arith) }
 
 -- ---- `begin`
 
-module _ {rows targets only ending : List ℕ} {marks : List Bool} {working : List ℕ} {w : Walk} {p : ℕ} {found : Found} (k : Begin rows targets only ending marks working w p found) where
-  -- p is marked
-  pub begin-marked : getD marks p false ≡ true → Begun rows targets only ending marks marks working working w p found found
+module _ {rows targets : List ℕ} {marks : List Bool} {working : List ℕ} {w : Trace} {before : HandedOver} (k : Begin rows targets marks working w before) where
+  -- the person is From
+  pub begin-marked : getD marks (w .last) false ≡ true → Begun rows targets marks marks working working w before before
   unfolding emits
   begin-marked h = record { same = refl; right = rw h }
 
-  pub begin-going : Going rows targets only ending (set marks p true) working (set blank 1 p) w p found
+  pub begin-going : {halves index : List ℕ} → Going rows targets halves index (set marks (w .last) true) working (set blank 1 (w .last)) w before
   begin-going = record {
     graph = k .graph;
     ready = record {
-      opens = record { wide = length-set marks p true ∙ k .wide; room = k .room; long = refl; some = omega (arith, k .first); short = omega (arith, k .first, k .short); none = k .none };
-      indexed = k .indexed;
-      place = k .place;
+      opens = record {
+        wide = length-set marks (w .last) true ∙ k .wide;
+        room = k .room;
+        long = refl;
+        some = omega (arith, k .first);
+        short = omega (arith, k .first, k .whole, k .short);
+        place = k .place;
+        none = k .none;
+      };
+      indexed = λ n. absurd (n (k .whole));
     };
   }
 
-  pub begin-begun : {marks′ : List Bool} {working′ : List ℕ} {found′ : Found} → getD marks p false ≡ false → Extended rows targets only ending (set marks p true) marks′ working working′ (set blank 1 p) w p found found′
-      → Begun rows targets only ending marks (set marks′ p false) working working′ w p found found′
+  pub begin-begun : {halves index : List ℕ} {marks′ : List Bool} {working′ : List ℕ} {after : HandedOver} → getD marks (w .last) false ≡ false
+      → Extended rows targets halves index (set marks (w .last) true) marks′ working working′ (set blank 1 (w .last)) w before after
+      → Begun rows targets marks (set marks′ (w .last) false) working working′ w before after
   begin-begun free e = record {
-    same = ap (λ (m : List Bool). set m p false) (e .same) ∙ unmarked marks p free;
-    right = rw (k .first) at (e .right) ∙ taken (graphOf rows targets) (rightsOf only ending (w .rest)) (w .left) marks blank 0 p (w .writes) (w .room) (page found working) free;
+    same = ap (λ (m : List Bool). set m (w .last) false) (e .same) ∙ unmarked marks (w .last) free;
+    right = rw (k .first, k .whole) at (e .right) ∙ taken (graphOf rows targets) (endingAt (w .to)) (w .left) marks blank 0 (w .last) (w .writes) (w .room) (page before working) free;
   }
 
--- ---- what is counted
+-- ---- `by_first_person`: what was handed over is what begins with a person before p, and the index says how much that is
 
--- ---- `shelve`: what was handed over is what stands before the place
+pub below-next : (g : Graph) (to : ℕ) (marks : List Bool) (hops p : ℕ) → halvesBelow g to marks hops (suc p) ≡ halvesBelow g to marks hops p ++ halvesFrom g to marks hops p
+unfolding personsBelow flatMap
+below-next g to marks hops p = flatMap-append (halvesFrom g to marks hops) (personsBelow p) (p ∷ []) ∙ ap (λ (l : List (List ℕ)). halvesBelow g to marks hops p ++ l) (append-nil (halvesFrom g to marks hops p))
 
-module _ (g : Graph) (rights : ℕ → List (List ℕ)) (marks : List Bool) where
-  pub before-next : (place : ℕ) → halvesBefore g rights marks (suc place) ≡ halvesBefore g rights marks place ++ halvesAt g rights marks place
-  unfolding personsBelow flatMap
-  before-next place = flatMap-append (halvesAt g rights marks) (personsBelow place) (place ∷ []) ∙ ap (λ (l : List (List ℕ)). halvesBefore g rights marks place ++ l) (append-nil (halvesAt g rights marks place))
+-- with nothing noted, all that was handed over is counted
+counted : (writes room : ℕ) (records : List ℕ → List ℕ) (start now : Page) (all : List (List ℕ)) → now ≡ emits writes room start (map records all) → now .more ≡ 0 → now .count ≡ start .count + length all
+counted writes room records start now all e z =
+    ap (λ (q : Page). q .count) e
+    ∙ emits-counted writes room start (map records all) (sym (ap (λ (q : Page). q .more) e) ∙ z)
+    ∙ ap (λ (m : ℕ). start .count + m) (length-map all records)
 
-  pub before-more : (a b : ℕ) → a ≤ b → (rest : List (List ℕ)) × (halvesBefore g rights marks b ≡ halvesBefore g rights marks a ++ rest)
-  before-more a zero h = let e : a ≡ 0 = omega arith in ([], ap (halvesBefore g rights marks) (sym e) ∙ sym (append-nil (halvesBefore g rights marks a)))
-  before-more a (suc b) h = go (decLe a b) (λ l. before-more a b l)
-    where
-      go : Dec (a ≤ b) → (a ≤ b → (rest : List (List ℕ)) × (halvesBefore g rights marks b ≡ halvesBefore g rights marks a ++ rest)) → (rest : List (List ℕ)) × (halvesBefore g rights marks (suc b) ≡ halvesBefore g rights marks a ++ rest)
-      go (yes l) on = let r = on l in (r .0 ++ halvesAt g rights marks b, before-next b ∙ ap (λ (l : List (List ℕ)). l ++ halvesAt g rights marks b) (r .1) ∙ append-assoc (halvesBefore g rights marks a) (r .0) (halvesAt g rights marks b))
-      go (no n) on = let e : a ≡ suc b = omega arith in ([], ap (halvesBefore g rights marks) (sym e) ∙ sym (append-nil (halvesBefore g rights marks a)))
-
-pub record Shelving (rows targets only ending : List ℕ) (marks₀ : List Bool) (index₀ working₀ : List ℕ) (writes places room : ℕ) (marks : List Bool) (index working : List ℕ) (got : Found) (place : ℕ) : Type 0 where
-  pub shelve : Shelve rows targets only ending marks₀ index₀ working₀ writes places
-  pub rooms : room ≡ length working₀ / recordSize
+pub record Noting (rows targets : List ℕ) (marks₀ : List Bool) (index₀ working₀ : List ℕ) (n : ℕ) (w : Trace) (before : HandedOver) (marks : List Bool) (index working : List ℕ) (got : HandedOver) (p : ℕ) : Type 0 where
+  pub first : First rows targets marks₀ index₀ working₀ n w before
   pub same : marks ≡ marks₀
   pub wide : length index ≡ length index₀
   pub long : length working ≡ length working₀
-  pub within : place ≤ places
-  pub none : got .more ≡ 0
-  pub right : page got working ≡ emits writes room (page nothing working₀) (map (recordWith blank 0) (halvesBefore (graphOf rows targets) (rightsOf only ending 0) marks₀ place))
-  pub indexes : (b : ℕ) → b < place → getD index b 0 ≡ length (halvesBefore (graphOf rows targets) (rightsOf only ending 0) marks₀ b)
+  pub within : p ≤ n
+  pub right : page got working ≡ emits (w .writes) (w .room) (page before working₀) (map (recordWith blank 0) (halvesBelow (graphOf rows targets) (w .to) marks₀ (w .left) p))
+  pub notes : (q : ℕ) → q < p → getD index (placeOf (w .left) q) 0 ≡ before .count + length (halvesBelow (graphOf rows targets) (w .to) marks₀ (w .left) q)
+  pub others : (c : ℕ) → ((q : ℕ) → q ≤ n → c ≢ placeOf (w .left) q) → getD index c 0 ≡ getD index₀ c 0
 
--- the numbers of the half chains of a place
-abbrev pub first-at : ℕ → ℕ → ℕ → Walk
-first-at writes room place = record { writes = writes; room = room; rest = 0; len = 1; left = place / persons }
+-- the half chains that begin with p
+abbrev pub firstly : Trace → ℕ → Trace
+firstly w p = record { to = w .to; writes = w .writes; room = w .room; rest = w .rest; len = w .len; left = w .left; last = p }
 
-module _ {rows targets only ending : List ℕ} {marks : List Bool} {index working : List ℕ} {writes places : ℕ} where
-  pub shelve-start : Shelve rows targets only ending marks index working writes places → Shelving rows targets only ending marks index working writes places (length working / recordSize) marks index working nothing 0
+module _ {rows targets : List ℕ} {marks : List Bool} {index working : List ℕ} {n : ℕ} {w : Trace} {before : HandedOver} where
+  pub note-start : First rows targets marks index working n w before → Noting rows targets marks index working n w before marks index working before 0
   unfolding personsBelow flatMap emits
-  shelve-start k = record { shelve = k; rooms = refl; same = refl; wide = refl; long = refl; within = omega arith; none = refl; right = refl; indexes = λ b h. absurd (omega arith) }
+  note-start k = record { first = k; same = refl; wide = refl; long = refl; within = omega arith; right = refl; notes = λ q h. absurd (omega arith); others = λ c h. refl }
 
-  module _ {room : ℕ} {marks′ : List Bool} {index′ working′ : List ℕ} {got : Found} {place : ℕ} (inv : Shelving rows targets only ending marks index working writes places room marks′ index′ working′ got place) where
-    counted : got .count ≡ length (halvesBefore (graphOf rows targets) (rightsOf only ending 0) marks place)
-    counted =
-        ap (λ (q : Page). q .count) (inv .right)
-        ∙ emits-counted writes room (page nothing working) _ (sym (ap (λ (q : Page). q .more) (inv .right)) ∙ inv .none)
-        ∙ omega (arith, length-map (halvesBefore (graphOf rows targets) (rightsOf only ending 0) marks place) (recordWith blank 0))
+  module _ {marks′ : List Bool} {index′ working′ : List ℕ} {got : HandedOver} {p : ℕ} (inv : Noting rows targets marks index working n w before marks′ index′ working′ got p) where
+    pub note-place : (q : ℕ) → q ≤ n → placeOf (w .left) q < length index′
+    note-place q l = omega (arith, inv .first .within, inv .first .known, inv .wide)
 
-    noted : place < length index′ → (b : ℕ) → b < place + 1 → getD (set index′ place (got .count)) b 0 ≡ length (halvesBefore (graphOf rows targets) (rightsOf only ending 0) marks b)
-    noted h b l =
+    -- the count is noted at p
+    noted : got .more ≡ 0 → (q : ℕ) → q < p + 1 → getD (set index′ (placeOf (w .left) p) (got .count)) (placeOf (w .left) q) 0 ≡ before .count + length (halvesBelow (graphOf rows targets) (w .to) marks (w .left) q)
+    noted z q l =
         ⊎-elim
-        (λ e. rw e (getD-set-same index′ place (got .count) 0 h ∙ counted))
-        (λ n. getD-set-other index′ place b (got .count) 0 n ∙ inv .indexes b (omega (arith, n)))
-        (same-or-not b place)
+        (λ e. rw e (getD-set-same index′ (placeOf (w .left) p) (got .count) 0 (note-place p (inv .within)) ∙ counted (w .writes) (w .room) (recordWith blank 0) (page before working) (page got working′) (halvesBelow (graphOf rows targets) (w .to) marks (w .left) p) (inv .right) z))
+        (λ d. getD-set-other index′ (placeOf (w .left) p) (placeOf (w .left) q) (got .count) 0 (λ e. d (omega (arith, e))) ∙ inv .notes q (omega (arith, d)))
+        (same-or-not q p)
 
-    pub shelve-index : place < length index′
-    shelve-index = omega (arith, inv .shelve .within, inv .within, inv .wide)
+    elsewhere : (c : ℕ) → ((q : ℕ) → q ≤ n → c ≢ placeOf (w .left) q) → getD (set index′ (placeOf (w .left) p) (got .count)) c 0 ≡ getD index c 0
+    elsewhere c h = getD-set-other index′ (placeOf (w .left) p) c (got .count) 0 (h p (inv .within)) ∙ inv .others c h
 
-    pub shelve-begin : place < places → Begin rows targets only ending marks′ working′ (first-at writes room place) (place % persons) got
-    shelve-begin lt =
-        let k = inv .shelve in
+    pub note-begin : p < n → eqb (got .more) 0 ≡ true → Begin rows targets marks′ working′ (firstly w p) got
+    note-begin lt none =
+        let k = inv .first in
         record {
           graph = k .graph;
-          indexed = k .indexed;
-          place = omega arith;
           wide = ap length (inv .same) ∙ k .wide;
-          room = omega (arith, inv .rooms, inv .long);
-          first = refl;
-          short = omega (arith, k .few, lt);
-          none = inv .none;
+          room = omega (arith, k .room, inv .long);
+          whole = k .whole;
+          first = k .first;
+          short = k .short;
+          place = omega (arith, k .known);
+          none = eqb-true (got .more) 0 none;
         }
 
-    module _ {marks″ : List Bool} {working″ : List ℕ} {got′ : Found} (lt : place < places)
-        (b : Begun rows targets only ending marks′ marks″ working′ working″ (first-at writes room place) (place % persons) got got′) where
-      begun-right : page got′ working″ ≡ emits writes room (page nothing working) (map (recordWith blank 0) (halvesBefore (graphOf rows targets) (rightsOf only ending 0) marks (place + 1)))
-      begun-right = rw (add-one place, before-next, map-append, emits-append, ← inv .right) (rw (inv .same) at (b .right))
+    pub note-turn : {marks″ : List Bool} {working″ : List ℕ} {got′ : HandedOver} → p < n → eqb (got .more) 0 ≡ true → Begun rows targets marks′ marks″ working′ working″ (firstly w p) got got′ → length working″ ≡ length working′
+        → Noting rows targets marks index working n w before marks″ (set index′ (placeOf (w .left) p) (got .count)) working″ got′ (p + 1)
+    note-turn lt none b long = record {
+      first = inv .first;
+      same = b .same ∙ inv .same;
+      wide = length-set index′ (placeOf (w .left) p) (got .count) ∙ inv .wide;
+      long = long ∙ inv .long;
+      within = omega arith;
+      right = turn-next (halvesBelow (graphOf rows targets) (w .to) marks (w .left)) (halvesFrom (graphOf rows targets) (w .to) marks (w .left)) (below-next (graphOf rows targets) (w .to) marks (w .left)) (recordWith blank 0) (w .writes) (w .room) (page before working) p (inv .right) (rw (inv .same) at (b .right));
+      notes = noted (eqb-true (got .more) 0 none);
+      others = elsewhere;
+    }
 
-      pub shelve-stop : {index″ : List ℕ} → (got′ .more ≡ 0 → ⊥) → Shelved rows targets only ending marks marks″ index″ working working″ writes places got′
-      shelve-stop n =
-          let r = before-more (graphOf rows targets) (rightsOf only ending 0) marks (place + 1) places (omega arith) in
-          record {
-            same = b .same ∙ inv .same;
-            right = rw (← inv .rooms, r .1, map-append, emits-append, ← begun-right) (sym (emits-more writes room (page got′ working″) _ n));
-            indexes = λ z. absurd (n z);
-          }
+    pub note-end : Over p n (page got working′) → Firsts rows targets marks marks′ index (set index′ (placeOf (w .left) n) (got .count)) working working′ n w before got
+    note-end over = record {
+      same = inv .same;
+      right = turn-end (halvesBelow (graphOf rows targets) (w .to) marks (w .left)) (halvesFrom (graphOf rows targets) (w .to) marks (w .left)) (below-next (graphOf rows targets) (w .to) marks (w .left)) (recordWith blank 0) (w .writes) (w .room) (page before working) p (inv .right) (inv .within) over;
+      notes = λ z q l. let e : p ≡ n = over-all (page got working′) over (inv .within) z in rw (← e) (noted z q (omega arith));
+      others = λ c h. getD-set-other index′ (placeOf (w .left) n) c (got .count) 0 (h n (omega arith)) ∙ inv .others c h;
+    }
 
-      pub shelve-turn : length working″ ≡ length working′ → got′ .more ≡ 0 → Shelving rows targets only ending marks index working writes places room marks″ (set index′ place (got .count)) working″ got′ (place + 1)
-      shelve-turn long n = record {
+-- ---- lists of 1, 2, .. hops
+
+from-next : (f : ℕ → List (List ℕ)) (k : ℕ) → fromOne f (suc k) ≡ fromOne f k ++ f (suc k)
+unfolding fromOne
+from-next f k = refl
+
+-- of 0, 1, .. hops
+pub shorter-from : (f : ℕ → List (List ℕ)) (k : ℕ) → shorterFirst f k ≡ f 0 ++ fromOne f k
+unfolding shorterFirst fromOne
+shorter-from f zero = sym (append-nil (f 0))
+shorter-from f (suc k) = ap (λ (l : List (List ℕ)). l ++ f (suc k)) (shorter-from f k) ∙ append-assoc (f 0) (fromOne f k) (f (suc k))
+
+pub shelf-next : (g : Graph) (n to : ℕ) (marks : List Bool) (j : ℕ) → shelfOf g n to marks (suc j) ≡ shelfOf g n to marks j ++ halvesOf g n to marks (suc j)
+unfolding shorterFirst
+shelf-next g n to marks j = refl
+
+-- ---- `shelve`: what was handed over behind (To) alone is the half chains of 1, 2, .. hops
+
+-- the numbers of the half chains of so many hops
+abbrev pub shelved : Sought → ℕ → ℕ → ℕ → Trace
+shelved sought writes room hops = record { to = sought .to; writes = writes; room = room; rest = 0; len = 1; left = hops; last = sought .to }
+
+pub record Shelving (rows targets : List ℕ) (marks₀ : List Bool) (index₀ working₀ : List ℕ) (sought : Sought) (writes room : ℕ) (before : HandedOver) (marks : List Bool) (index working : List ℕ) (got : HandedOver) (hops : ℕ) : Type 0 where
+  pub shelve : Shelve rows targets marks₀ index₀ working₀ sought writes
+  pub rooms : room * recordSize ≤ length working₀
+  pub same : marks ≡ marks₀
+  pub wide : length index ≡ length index₀
+  pub long : length working ≡ length working₀
+  pub within : hops ≤ sought .hops / 2
+  pub right : page got working ≡ emits writes room (page before working₀) (map (recordWith blank 0) (fromOne (halvesOf (graphOf rows targets) (sought .persons) (sought .to) marks₀) hops))
+  pub notes : got .more ≡ 0 → (j p : ℕ) → j < hops → p ≤ sought .persons → getD index (placeOf (suc j) p) 0 ≡ before .count + length (fromOne (halvesOf (graphOf rows targets) (sought .persons) (sought .to) marks₀) j ++ halvesBelow (graphOf rows targets) (sought .to) marks₀ (suc j) p)
+  pub others : (j p : ℕ) → sought .persons < p → p ≤ persons → getD index (placeOf (suc j) p) 0 ≡ getD index₀ (placeOf (suc j) p) 0
+
+module _ {rows targets : List ℕ} {marks : List Bool} {index working : List ℕ} {sought : Sought} {writes : ℕ} where
+  -- (To) alone
+  module _ (k : Shelve rows targets marks index working sought writes) where
+    pub shelve-begin : Begin rows targets marks working (shelved sought writes (length working / recordSize) 0) nothing
+    shelve-begin = record {
+      graph = k .seeking .graph;
+      wide = k .wide;
+      room = omega arith;
+      whole = refl;
+      first = refl;
+      short = omega arith;
+      place = omega (arith, k .seeking .target, k .seeking .known);
+      none = refl;
+    }
+
+    pub shelve-start : {marks′ : List Bool} {working′ : List ℕ} {got : HandedOver} → Begun rows targets marks marks′ working working′ (shelved sought writes (length working / recordSize) 0) nothing got → length working′ ≡ length working
+        → Shelving rows targets marks′ index working′ sought writes (length working / recordSize) got marks′ index working′ got 0
+    unfolding fromOne emits
+    shelve-start b long = record {
+      shelve = record { seeking = k .seeking; wide = ap length (b .same) ∙ k .wide; within = k .within };
+      rooms = omega (arith, long);
+      same = refl;
+      wide = refl;
+      long = refl;
+      within = omega arith;
+      right = refl;
+      notes = λ z j p h. absurd (omega arith);
+      others = λ j p h l. refl;
+    }
+
+  module _ {room : ℕ} {before : HandedOver} {marks′ : List Bool} {index′ working′ : List ℕ} {got : HandedOver} {hops : ℕ} (inv : Shelving rows targets marks index working sought writes room before marks′ index′ working′ got hops) where
+    pub shelve-first : hops < sought .hops / 2 → eqb (got .more) 0 ≡ true → First rows targets marks′ index′ working′ (sought .persons) (shelved sought writes room (hops + 1)) got
+    shelve-first lt none =
+        let k = inv .shelve in
+        record {
+          graph = k .seeking .graph;
+          wide = ap length (inv .same) ∙ k .wide;
+          room = omega (arith, inv .long, inv .rooms);
+          whole = refl;
+          first = refl;
+          some = omega arith;
+          short = omega (arith, lt, k .seeking .few);
+          known = k .seeking .known;
+          within = omega (arith, lt, k .seeking .few, k .within, inv .wide);
+          none = eqb-true (got .more) 0 none;
+        }
+
+    module _ {marks″ : List Bool} {index″ working″ : List ℕ} {got′ : HandedOver} (lt : hops < sought .hops / 2) (none : eqb (got .more) 0 ≡ true)
+        (f : Firsts rows targets marks′ marks″ index′ index″ working′ working″ (sought .persons) (shelved sought writes room (hops + 1)) got got′) where
+      row-noted : got′ .more ≡ 0 → (p : ℕ) → p ≤ sought .persons → getD index″ (placeOf (suc hops) p) 0 ≡ before .count + length (fromOne (halvesOf (graphOf rows targets) (sought .persons) (sought .to) marks) hops ++ halvesBelow (graphOf rows targets) (sought .to) marks (suc hops) p)
+      row-noted z p l =
+          let came : got .count ≡ before .count + length (fromOne (halvesOf (graphOf rows targets) (sought .persons) (sought .to) marks) hops) = counted writes room (recordWith blank 0) (page before working) (page got working′) (fromOne (halvesOf (graphOf rows targets) (sought .persons) (sought .to) marks) hops) (inv .right) (eqb-true (got .more) 0 none) in
+          let row : getD index″ (placeOf (suc hops) p) 0 ≡ got .count + length (halvesBelow (graphOf rows targets) (sought .to) marks (suc hops) p) = rw (add-one hops, inv .same) at (f .notes z p l) in
+          omega (arith, came, row, length-append (fromOne (halvesOf (graphOf rows targets) (sought .persons) (sought .to) marks) hops) (halvesBelow (graphOf rows targets) (sought .to) marks (suc hops) p))
+
+      pub shelve-turn : length index″ ≡ length index′ → length working″ ≡ length working′ → Shelving rows targets marks index working sought writes room before marks″ index″ working″ got′ (hops + 1)
+      unfolding halvesOf
+      shelve-turn wide long = record {
         shelve = inv .shelve;
         rooms = inv .rooms;
-        same = b .same ∙ inv .same;
-        wide = length-set index′ place (got .count) ∙ inv .wide;
+        same = f .same ∙ inv .same;
+        wide = wide ∙ inv .wide;
         long = long ∙ inv .long;
         within = omega arith;
-        none = n;
-        right = begun-right;
-        indexes = noted shelve-index;
+        right = turn-next (fromOne (halvesOf (graphOf rows targets) (sought .persons) (sought .to) marks)) (λ j. halvesOf (graphOf rows targets) (sought .persons) (sought .to) marks (suc j)) (from-next (halvesOf (graphOf rows targets) (sought .persons) (sought .to) marks)) (recordWith blank 0) writes room (page before working) hops (inv .right) (rw (add-one hops, inv .same) at (f .right));
+        notes = λ z j p h l.
+            ⊎-elim
+            (λ e. rw e (row-noted z p l))
+            (λ d. f .others (placeOf (suc j) p) (λ q i e. omega (arith, d, h, l, i, e, inv .shelve .seeking .known)) ∙ inv .notes (eqb-true (got .more) 0 none) j p (omega (arith, d)) l)
+            (same-or-not j hops);
+        others = λ j p h l. f .others (placeOf (suc j) p) (λ q i e. omega (arith, h, l, i, e)) ∙ inv .others j p h l;
       }
 
-    pub shelve-end : places ≤ place → Shelved rows targets only ending marks marks′ (set index′ place (got .count)) working working′ writes places got
-    shelve-end h =
-        let e : place ≡ places = omega (arith, inv .within) in
-        record {
-          same = inv .same;
-          right = rw (← inv .rooms, ← e) (inv .right);
-          indexes = λ z b l. noted shelve-index b (omega arith);
-        }
+-- behind (To) alone
+module _ {rows targets : List ℕ} {marks marks₁ : List Bool} {index working working₁ : List ℕ} {sought : Sought} {writes : ℕ} {before : HandedOver} {marks′ : List Bool} {index′ working′ : List ℕ} {got : HandedOver} {hops : ℕ}
+    (b : Begun rows targets marks marks₁ working working₁ (shelved sought writes (length working / recordSize) 0) nothing before)
+    (inv : Shelving rows targets marks₁ index working₁ sought writes (length working / recordSize) before marks′ index′ working′ got hops) (over : Over hops (sought .hops / 2) (page got working′)) where
+  behind : page got working′ ≡ emits writes (length working / recordSize) (page before working₁) (map (recordWith blank 0) (fromOne (halvesOf (graphOf rows targets) (sought .persons) (sought .to) marks) (sought .hops / 2)))
+  behind = rw (b .same) at (turn-end (fromOne (halvesOf (graphOf rows targets) (sought .persons) (sought .to) marks₁)) (λ j. halvesOf (graphOf rows targets) (sought .persons) (sought .to) marks₁ (suc j)) (from-next (halvesOf (graphOf rows targets) (sought .persons) (sought .to) marks₁)) (recordWith blank 0) writes (length working / recordSize) (page before working₁) hops (inv .right) (inv .within) over)
+
+  -- with nothing noted in the end, (To) alone was counted
+  alone : got .more ≡ 0 → before .count ≡ length (halvesFrom (graphOf rows targets) (sought .to) marks 0 (sought .to))
+  alone z = counted writes (length working / recordSize) (recordWith blank 0) (page nothing working) (page before working₁) (halvesFrom (graphOf rows targets) (sought .to) marks 0 (sought .to)) (b .right) (⊎-elim (λ e. e) (λ n. absurd (n (sym (ap (λ (q : Page). q .more) (behind ∙ emits-more writes (length working / recordSize) (page before working₁) _ n)) ∙ z))) (same-or-not (before .more) 0)) ∙ zero-add _
+
+  pub shelve-end : Shelved rows targets marks marks′ index index′ working working′ sought writes got
+  unfolding halvesOf
+  shelve-end = record {
+    same = inv .same ∙ b .same;
+    right = rw (shorter-from (halvesOf (graphOf rows targets) (sought .persons) (sought .to) marks) (sought .hops / 2), map-append, emits-append, ← b .right) behind;
+    notes = λ z j p h l.
+        let e : hops ≡ sought .hops / 2 = over-all (page got working′) over (inv .within) z in
+        let noted : getD index′ (placeOf (suc j) p) 0 ≡ before .count + length (fromOne (halvesOf (graphOf rows targets) (sought .persons) (sought .to) marks) j ++ halvesBelow (graphOf rows targets) (sought .to) marks (suc j) p) = rw (b .same) at (inv .notes z j p (omega (arith, e)) l) in
+        let shelf : length (shelfOf (graphOf rows targets) (sought .persons) (sought .to) marks j) ≡ length (halvesFrom (graphOf rows targets) (sought .to) marks 0 (sought .to)) + length (fromOne (halvesOf (graphOf rows targets) (sought .persons) (sought .to) marks) j) = ap length (shorter-from (halvesOf (graphOf rows targets) (sought .persons) (sought .to) marks) j) ∙ length-append (halvesFrom (graphOf rows targets) (sought .to) marks 0 (sought .to)) (fromOne (halvesOf (graphOf rows targets) (sought .persons) (sought .to) marks) j) in
+        omega (arith, noted, shelf, alone z, length-append (fromOne (halvesOf (graphOf rows targets) (sought .persons) (sought .to) marks) j) (halvesBelow (graphOf rows targets) (sought .to) marks (suc j) p), length-append (shelfOf (graphOf rows targets) (sought .persons) (sought .to) marks j) (halvesBelow (graphOf rows targets) (sought .to) marks (suc j) p));
+    others = inv .others;
+  }
 
 -- ---- `gather`: what was handed over is the chains of fewer hops
 
-pub from-more : (f : ℕ → List (List ℕ)) (a b : ℕ) → a ≤ b → (rest : List (List ℕ)) × (fromOne f b ≡ fromOne f a ++ rest)
-unfolding fromOne
-from-more f a zero h = let e : a ≡ 0 = omega arith in ([], ap (fromOne f) (sym e) ∙ sym (append-nil (fromOne f a)))
-from-more f a (suc b) h = go (decLe a b) (λ l. from-more f a b l)
-  where
-    go : Dec (a ≤ b) → (a ≤ b → (rest : List (List ℕ)) × (fromOne f b ≡ fromOne f a ++ rest)) → (rest : List (List ℕ)) × (fromOne f (suc b) ≡ fromOne f a ++ rest)
-    go (yes l) on = let r = on l in (r .0 ++ f (suc b), ap (λ (l : List (List ℕ)). l ++ f (suc b)) (r .1) ∙ append-assoc (fromOne f a) (r .0) (f (suc b)))
-    go (no n) on = let e : a ≡ suc b = omega arith in ([], ap (fromOne f) (sym e) ∙ sym (append-nil (fromOne f a)))
-
-from-next : (f : ℕ → List (List ℕ)) (k : ℕ) → fromOne f (k + 1) ≡ fromOne f k ++ f (k + 1)
-unfolding fromOne
-from-next f k = rw (add-one k)
-
-pub record Gathering (rows targets halves index : List ℕ) (marks₀ : List Bool) (out₀ : List ℕ) (from hops room : ℕ) (chain : List ℕ) (marks : List Bool) (out : List ℕ) (got : Found) (done : ℕ) : Type 0 where
-  pub gather : Gather rows targets halves index marks₀ out₀ from hops
-  pub rooms : room ≡ length out₀ / recordSize
-  pub first : chain ≡ set blank 1 from
+pub record Gathering (rows targets halves index : List ℕ) (marks₀ : List Bool) (out₀ : List ℕ) (sought : Sought) (marks : List Bool) (out : List ℕ) (got : HandedOver) (done : ℕ) : Type 0 where
+  pub gather : Gather rows targets halves index marks₀ out₀ sought
   pub same : marks ≡ marks₀
   pub long : length out ≡ length out₀
-  pub within : done ≤ hops
-  pub none : got .more ≡ 0
-  pub right : page got out ≡ emits 1 room (page nothing out₀) (map (recordWith (set blank 1 from) 1) (fromOne (waysOf (graphOf rows targets) halves index marks₀ from) done))
+  pub within : done ≤ sought .hops
+  pub right : page got out ≡ emits 1 (length out₀ / recordSize) (page nothing out₀) (map (recordWith (set blank 1 (sought .from)) 1) (fromOne (waysOf (graphOf rows targets) halves index marks₀ (sought .from) (sought .to)) done))
 
 -- the numbers of the chains of L hops
-abbrev pub halved : ℕ → ℕ → Walk
-halved room L = record { writes = 1; room = room; rest = rightHops L; len = 1; left = leftHops L }
+abbrev pub halved : Sought → ℕ → ℕ → Trace
+halved sought room L = record { to = sought .to; writes = 1; room = room; rest = rightHops L; len = 1; left = leftHops L; last = sought .from }
 
-module _ {rows targets halves index : List ℕ} {marks : List Bool} {out : List ℕ} {from hops : ℕ} where
-  pub gather-start : Gather rows targets halves index marks out from hops → Gathering rows targets halves index marks out from hops (length out / recordSize) (set blank 1 from) marks out nothing 0
+module _ {rows targets halves index : List ℕ} {marks : List Bool} {out : List ℕ} {sought : Sought} where
+  pub gather-start : Gather rows targets halves index marks out sought → Gathering rows targets halves index marks out sought marks out nothing 0
   unfolding fromOne emits
-  gather-start k = record { gather = k; rooms = refl; first = refl; same = refl; long = refl; within = omega arith; none = refl; right = refl }
+  gather-start k = record { gather = k; same = refl; long = refl; within = omega arith; right = refl }
 
-  module _ {room : ℕ} {chain : List ℕ} {marks′ : List Bool} {out′ : List ℕ} {got : Found} {done : ℕ} (inv : Gathering rows targets halves index marks out from hops room chain marks′ out′ got done) where
-    pub gather-going : done < hops → Going rows targets halves index marks′ out′ chain (halved room (done + 1)) from got
-    gather-going lt =
+  module _ {marks′ : List Bool} {out′ : List ℕ} {got : HandedOver} {done : ℕ} (inv : Gathering rows targets halves index marks out sought marks′ out′ got done) where
+    pub gather-going : done < sought .hops → eqb (got .more) 0 ≡ true → Going rows targets halves index marks′ out′ (set blank 1 (sought .from)) (halved sought (length out / recordSize) (done + 1)) got
+    gather-going lt none =
         let k = inv .gather in
         record {
-          graph = k .graph;
+          graph = k .seeking .graph;
           ready = record {
-            opens = record { wide = ap length (inv .same) ∙ k .wide; room = omega (arith, inv .rooms, inv .long); long = ap length (inv .first); some = omega arith; short = omega (arith, k .few, lt); none = inv .none };
-            indexed = k .indexed (rightHops (done + 1)) (right-within (done + 1) hops (omega arith));
-            place = k .place;
+            opens = record {
+              wide = ap length (inv .same) ∙ k .wide;
+              room = omega (arith, inv .long);
+              long = refl;
+              some = omega arith;
+              short = omega (arith, k .seeking .few, lt);
+              place = omega (arith, k .seeking .source, k .seeking .known);
+              none = eqb-true (got .more) 0 none;
+            };
+            indexed = λ n. k .indexed (rightHops (done + 1)) (omega (arith, n)) (right-within (done + 1) (sought .hops) (omega arith));
           };
         }
 
-    module _ {marks″ : List Bool} {out″ : List ℕ} {got′ : Found} (lt : done < hops)
-        (e : Extended rows targets halves index marks′ marks″ out′ out″ chain (halved room (done + 1)) from got got′) where
-      more-right : page got′ out″ ≡ emits 1 room (page nothing out) (map (recordWith (set blank 1 from) 1) (fromOne (waysOf (graphOf rows targets) halves index marks from) (done + 1)))
-      more-right = rw (from-next, map-append, emits-append, ← inv .right) (rw (inv .same, inv .first) at (e .right))
+    pub gather-turn : {marks″ : List Bool} {out″ : List ℕ} {got′ : HandedOver} → done < sought .hops → Extended rows targets halves index marks′ marks″ out′ out″ (set blank 1 (sought .from)) (halved sought (length out / recordSize) (done + 1)) got got′ → length out″ ≡ length out′
+        → Gathering rows targets halves index marks out sought marks″ out″ got′ (done + 1)
+    gather-turn lt e long = record {
+      gather = inv .gather;
+      same = e .same ∙ inv .same;
+      long = long ∙ inv .long;
+      within = omega arith;
+      right = turn-next (fromOne (waysOf (graphOf rows targets) halves index marks (sought .from) (sought .to))) (λ i. waysOf (graphOf rows targets) halves index marks (sought .from) (sought .to) (suc i)) (from-next (waysOf (graphOf rows targets) halves index marks (sought .from) (sought .to))) (recordWith (set blank 1 (sought .from)) 1) 1 (length out / recordSize) (page nothing out) done (inv .right) (rw (inv .same, add-one done) at (e .right));
+    }
 
-      pub gather-stop : (got′ .more ≡ 0 → ⊥) → Gathered rows targets halves index marks marks″ out out″ from hops got′
-      gather-stop n =
-          let r = from-more (waysOf (graphOf rows targets) halves index marks from) (done + 1) hops (omega arith) in
-          record { same = e .same ∙ inv .same; right = rw (← inv .rooms, r .1, map-append, emits-append, ← more-right) (sym (emits-more 1 room (page got′ out″) _ n)) }
-
-      pub gather-turn : length out″ ≡ length out′ → got′ .more ≡ 0 → Gathering rows targets halves index marks out from hops room chain marks″ out″ got′ (done + 1)
-      gather-turn long n = record { gather = inv .gather; rooms = inv .rooms; first = inv .first; same = e .same ∙ inv .same; long = long ∙ inv .long; within = omega arith; none = n; right = more-right }
-
-    pub gather-end : hops ≤ done → Gathered rows targets halves index marks marks′ out out′ from hops got
-    gather-end h =
-        let e : done ≡ hops = omega (arith, inv .within) in
-        record { same = inv .same; right = rw (← inv .rooms, ← e) (inv .right) }
+    pub gather-end : Over done (sought .hops) (page got out′) → Gathered rows targets halves index marks marks′ out out′ sought got
+    gather-end over = record {
+      same = inv .same;
+      right = turn-end (fromOne (waysOf (graphOf rows targets) halves index marks (sought .from) (sought .to))) (λ i. waysOf (graphOf rows targets) halves index marks (sought .from) (sought .to) (suc i)) (from-next (waysOf (graphOf rows targets) halves index marks (sought .from) (sought .to))) (recordWith (set blank 1 (sought .from)) 1) 1 (length out / recordSize) (page nothing out) done (inv .right) (inv .within) over;
+    }

@@ -2,16 +2,14 @@
 use mathlib.Core.Path.{_≡_, refl, sym, ap, subst, _∙_, fun-ext}
 use mathlib.Core.Bool.{Bool, true, false, cond}
 use mathlib.Core.List.{List, [], _∷_, _++_, map, flatMap, map-map, append-nil, append-assoc, List·Memᴰ·head, List·Memᴰ·tail, List·Memᴰ·not-nil, List·Memᴰ·cases-cons, List·Memᴰ·append-cases, Memᴰ·append-left, Memᴰ·append-right, Memᴰ·of-map}
-use mathlib.Core.Logic.{_≢_, _⊎_, inl, inr, ⊎-elim}
-use Prim.Native.Nat.{ℕ, zero, suc, _+_, _-_, _*_, _/_, _%_, _≤_, _<_}
-use lib.ListN.{length, getD, set, take, drop, replicate, length-append, getD-replicate, List·getD-append, List·getD-eq-default}
-use lib.Seq.{getD-set-other, take-at, drop-append-add, append-snoc}
+use mathlib.Core.Logic.{_⊎_, inl, inr, ⊎-elim}
+use Prim.Native.Nat.{ℕ, zero, suc, _+_, _-_, _*_, _/_, _≤_, _<_}
+use lib.ListN.{length, getD, set, take, drop, replicate, length-append, List·getD-append}
+use lib.Seq.{take-at, drop-append-add, append-snoc}
 use lib.Dec.{eqb, ltb}
 use native.Mathlib.Omega.{arith}
-use native.Mathlib.Nat.{add-zero, add-suc}
-use native.Mathlib.Numerals.{add-one}
 use borrow.Author.Tests.{eq-eqb, ne-eqb, lt-ltb, le-ltb}
-use Rattle.ways.specs.Graph.{Graph, _∈_, among}
+use Rattle.ways.specs.Graph.{_∈_, among}
 use Rattle.ways.specs.Chain.{Last, Linked, hops}
 use Rattle.ways.specs.Records.{recordOf, Fits, cellsOf, written}
 use Rattle.ways.specs.ByHops.{shorterFirst}
@@ -23,71 +21,15 @@ use Rattle.ways.proofs.Members.{flatMap-append}
 use Rattle.ways.proofs.Records.{cellsOf-append, length-cellsOf, length-written}
 use Rattle.ways.proofs.Halves.{persons-below, halves-exact, half-fits}
 use Rattle.ways.proofs.Onward.{onward-from, halfChains-onward}
-use Rattle.compact.specs.Compact.{persons, graphOf, Compact}
-use Rattle.compact.proofs.Rows.{row-none}
+use Rattle.compact.specs.Compact.{persons, graphOf}
 use Rattle.compact.specs.Marks.{Marked}
 use Rattle.compact.proofs.Marking.{marked-more}
-use Rattle.pages.specs.Pages.{blank}
-use Rattle.half_chains.specs.Walks.{restOf, restsOf, placeOf, rightsOf, Indexed, taking}
-use Rattle.half_chains.specs.Shelf.{Ended, halvesAt, halvesBefore, placesAtMost}
-use Rattle.half_chains.proofs.Shelving.{before-next, before-more}
-use Rattle.half_chains.proofs.Meeting.{flatMap-same, atEnd, following-onward, startingAt}
-
--- ---- (To) alone and its index
-
-module _ {ending : List ℕ} {t : ℕ} (e : Ended ending t) (place : t < persons) where
-  pub rights-ending : (p : ℕ) → p < persons → rightsOf (set blank 1 t) ending 0 p ≡ atEnd t p
-  unfolding restsOf
-  rights-ending p l =
-      let a : placeOf 0 p ≡ p = omega arith in
-      ⊎-elim
-      (λ less. rw (a, e .low p (omega arith), e .low (p + 1) (omega arith), ne-eqb p t (λ q. omega arith)))
-      (λ le. ⊎-elim
-      (λ q. rw (a, e .low p (omega arith), e .high (p + 1) (omega arith) (omega arith), eq-eqb p t q))
-      (λ n. rw (a, e .high p (omega (arith, n)) (omega arith), e .high (p + 1) (omega arith) (omega arith), ne-eqb p t n))
-      (same-or-not p t))
-      (lt-or-le p t)
-
-  one : (p : ℕ) → p < suc persons → getD ending p 0 ≤ 1
-  one p l = ⊎-elim (λ i. omega (arith, e .high p i l)) (λ i. omega (arith, e .low p i)) (lt-or-le t p)
-
-  pub indexed-ending : Indexed (set blank 1 t) ending 0
-  indexed-ending = record {
-    within = omega (arith, e .long);
-    rise = λ p l. let a : placeOf 0 p ≡ p = omega arith in rw a (⊎-elim (λ i. omega (arith, e .high p i (omega arith), e .high (p + 1) (omega arith) (omega arith))) (λ i. omega (arith, e .low p i)) (lt-or-le t p));
-    there = λ p l. let a : placeOf 0 p ≡ p = omega arith in rw a (omega (arith, one (p + 1) (omega arith)));
-    people = λ p l c h. ⊎-elim (λ i. rw i place) (λ n. rw (getD-set-other blank 1 c t 0 n) (zeros c)) (same-or-not c 1);
-  }
-    where
-      zeros : (c : ℕ) → getD blank c 0 < persons
-      zeros c = ⊎-elim (λ l. omega (arith, getD-replicate {A = ℕ} recordSize c 0 0 l)) (λ l. omega (arith, List·getD-eq-default blank 0 {n = c} l)) (lt-or-le c recordSize)
-
--- ---- place by place
-
-module _ (g : Graph) (rights : ℕ → List (List ℕ)) (marks : List Bool) where
-  block : (j m : ℕ) → m ≤ persons → halvesBefore g rights marks (j * persons + m) ≡ halvesBefore g rights marks (j * persons) ++ flatMap (taking g rights j marks) (personsBelow m)
-  unfolding personsBelow flatMap
-  block j zero h = ap (halvesBefore g rights marks) (add-zero (j * persons)) ∙ sym (append-nil (halvesBefore g rights marks (j * persons)))
-  block j (suc m) h =
-      let d : (j * persons + m) / persons ≡ j = omega arith in
-      let r : (j * persons + m) % persons ≡ m = omega arith in
-      ap (halvesBefore g rights marks) (add-suc (j * persons) m)
-      ∙ before-next g rights marks (j * persons + m)
-      ∙ ap (λ (l : List (List ℕ)). l ++ halvesAt g rights marks (j * persons + m)) (block j m (omega arith))
-      ∙ rw (d, r) (append-assoc (halvesBefore g rights marks (j * persons)) (flatMap (taking g rights j marks) (personsBelow m)) (taking g rights j marks m))
-      ∙ ap (λ (l : List (List ℕ)). halvesBefore g rights marks (j * persons) ++ l)
-      (ap (λ (l : List (List ℕ)). flatMap (taking g rights j marks) (personsBelow m) ++ l) (sym (append-nil (taking g rights j marks m))) ∙ sym (flatMap-append (taking g rights j marks) (personsBelow m) (m ∷ [])))
-
-  before-none : halvesBefore g rights marks 0 ≡ []
-  unfolding personsBelow flatMap
-  before-none = refl
-
-  blocks : (j : ℕ) → halvesBefore g rights marks (suc j * persons) ≡ shorterFirst (λ i. flatMap (taking g rights i marks) (personsBelow persons)) j
-  unfolding shorterFirst
-  blocks zero = block 0 persons (omega arith) ∙ ap (λ (l : List (List ℕ)). l ++ flatMap (taking g rights 0 marks) (personsBelow persons)) before-none
-  blocks (suc j) =
-      let e : suc (suc j) * persons ≡ suc j * persons + persons = omega arith in
-      ap (halvesBefore g rights marks) e ∙ block (suc j) persons (omega arith) ∙ ap (λ (l : List (List ℕ)). l ++ flatMap (taking g rights (suc j) marks) (personsBelow persons)) (blocks j)
+use Rattle.half_chains.specs.Traces.{restOf, restsOf, placeOf, indexedAt, rightsOf, Indexed}
+use Rattle.half_chains.specs.Shelf.{Seeking, halvesFrom, halvesBelow, halvesOf, shelfOf, halvesBefore}
+use Rattle.half_chains.specs.declared.traces.Sought.{Sought}
+use Rattle.half_chains.proofs.Turns.{further}
+use Rattle.half_chains.proofs.Shelving.{below-next, shelf-next}
+use Rattle.half_chains.proofs.Meeting.{flatMap-same, following-onward, startingAt}
 
 -- ---- those that start at a person
 
@@ -180,132 +122,155 @@ getD-in [] c h = absurd (omega arith)
 getD-in (x ∷ l) zero h = List·Memᴰ·head refl
 getD-in (x ∷ l) (suc c) h = List·Memᴰ·tail (getD-in l c (omega arith))
 
--- ---- the half chains of a graph
+-- ---- the half chains that are sought
 
-module _ {rows targets : List ℕ} (k : Compact rows targets) where
-  pub low-persons : (p v : ℕ) → v ∈ graphOf rows targets p → p < persons
-  low-persons p v m = ⊎-elim (λ l. l) (λ l. absurd (List·Memᴰ·not-nil (subst (λ r. v ∈ r) (row-none p k l) m))) (lt-or-le p persons)
+module _ {rows targets : List ℕ} {sought : Sought} (k : Seeking rows targets sought) where
+  half-people : (h : List ℕ) → Last (sought .to) h → Linked (graphOf rows targets) h → (x : ℕ) → x ∈ h → x < persons
+  half-people [] last link x m = absurd last
+  half-people (p ∷ []) last link x m = ⊎-elim (λ e. omega (arith, e, last, k .target, k .known)) (λ i. absurd (List·Memᴰ·not-nil i)) (List·Memᴰ·cases-cons m)
+  half-people (p ∷ q ∷ h) last link x m = ⊎-elim (λ e. omega (arith, e, k .low p q (link .0), k .known)) (half-people (q ∷ h) last (link .1) x) (List·Memᴰ·cases-cons m)
 
-  half-people : {t : ℕ} → t < persons → (h : List ℕ) → Last t h → Linked (graphOf rows targets) h → (x : ℕ) → x ∈ h → x < persons
-  half-people l [] last link x m = absurd last
-  half-people l (p ∷ []) last link x m = ⊎-elim (λ e. omega (arith, e, last)) (λ i. absurd (List·Memᴰ·not-nil i)) (List·Memᴰ·cases-cons m)
-  half-people l (p ∷ q ∷ h) last link x m = ⊎-elim (λ e. omega (arith, e, low-persons p q (link .0))) (half-people l (q ∷ h) last (link .1) x) (List·Memᴰ·cases-cons m)
+  abbrev all : List (List ℕ)
+  all = halves (graphOf rows targets) (sought .persons) (sought .from) (sought .to) (sought .hops)
 
-module _ {rows targets : List ℕ} (k : Compact rows targets) (s t : ℕ) (from : s < persons) (to : t < persons) (ne : s ≢ t)
-    (rights : ℕ → List (List ℕ)) (ends : (p : ℕ) → p < persons → rights p ≡ atEnd t p) (marks : List Bool) (marked : Marked marks (s ∷ [])) where
-  -- those that start at p, without p
+  pub all-fit : (h : List ℕ) → h ∈ all → Fits recordSize h
+  all-fit h m = half-fits (graphOf rows targets) (sought .persons) (sought .from) (sought .to) (k .differ) (k .low) (sought .hops) recordSize (omega (arith, k .few)) h m
+
+  all-people : (h : List ℕ) → h ∈ all → Fits recordSize h × ((x : ℕ) → x ∈ h → x < persons)
+  all-people h m = let r = halves-exact (graphOf rows targets) (sought .persons) (sought .from) (sought .to) (k .differ) (k .low) (sought .hops) h .0 m .0 in (all-fit h m, half-people h (r .last) (r .linked))
+
+  -- those of j hops that start at p, without p
   abbrev rest-from : ℕ → ℕ → List (List ℕ)
-  rest-from j p = cond (eqb p s) [] (onward (graphOf rows targets) (λ q. eqb q t) j (p ∷ s ∷ []) p)
+  rest-from j p = cond (eqb p (sought .from)) [] (onward (graphOf rows targets) (λ q. eqb q (sought .to)) j (p ∷ sought .from ∷ []) p)
 
-  taking-half : (j p : ℕ) → p < persons → taking (graphOf rows targets) rights j marks p ≡ map (_∷_ p) (rest-from j p)
-  unfolding among
-  taking-half j p l = rw (marked .each p, following-onward k t rights ends j (set marks p true) (p ∷ s ∷ []) p (marked-more p l marked) l) (go (eqb p s))
+  rest-hops : (j p : ℕ) (w : List ℕ) → w ∈ rest-from j p → length w ≡ j
+  rest-hops j p w m = go (eqb p (sought .from)) m
     where
-      go : (b : Bool) → cond (cond b true false) [] (map (_∷_ p) (onward (graphOf rows targets) (λ q. eqb q t) j (p ∷ s ∷ []) p)) ≡ map (_∷_ p) (cond b [] (onward (graphOf rows targets) (λ q. eqb q t) j (p ∷ s ∷ []) p))
-      go true = refl
-      go false = refl
+      go : (b : Bool) → w ∈ cond b [] (onward (graphOf rows targets) (λ q. eqb q (sought .to)) j (p ∷ sought .from ∷ []) p) → length w ≡ j
+      go true i = absurd (List·Memᴰ·not-nil i)
+      go false i = onward-from (graphOf rows targets) (λ q. eqb q (sought .to)) j (p ∷ sought .from ∷ []) p i .exactly
 
-  row-halves : (j : ℕ) → flatMap (λ p. map (_∷_ p) (rest-from j p)) (personsBelow persons) ≡ halfChains (graphOf rows targets) persons s t j
+  row-halves : (j : ℕ) → flatMap (λ p. map (_∷_ p) (rest-from j p)) (personsBelow (sought .persons)) ≡ halfChains (graphOf rows targets) (sought .persons) (sought .from) (sought .to) j
   row-halves j =
-      flatMap-same _ _ (personsBelow persons) (λ p m. go p (eqb p s))
-      ∙ sym (halfChains-onward (graphOf rows targets) (k .rising) persons (low-persons k) s t ne to j)
+      flatMap-same _ _ (personsBelow (sought .persons)) (λ p m. go p (eqb p (sought .from)))
+      ∙ sym (halfChains-onward (graphOf rows targets) (k .graph .rising) (sought .persons) (k .low) (sought .from) (sought .to) (k .differ) (k .target) j)
     where
-      go : (p : ℕ) (b : Bool) → map (_∷_ p) (cond b [] (onward (graphOf rows targets) (λ q. eqb q t) j (p ∷ s ∷ []) p)) ≡ cond b [] (map (_∷_ p) (onward (graphOf rows targets) (λ q. eqb q t) j (p ∷ s ∷ []) p))
+      go : (p : ℕ) (b : Bool) → map (_∷_ p) (cond b [] (onward (graphOf rows targets) (λ q. eqb q (sought .to)) j (p ∷ sought .from ∷ []) p)) ≡ cond b [] (map (_∷_ p) (onward (graphOf rows targets) (λ q. eqb q (sought .to)) j (p ∷ sought .from ∷ []) p))
       go p true = refl
       go p false = refl
 
-  -- all that is handed over
-  pub all-halves : (asked : ℕ) → halvesBefore (graphOf rows targets) rights marks ((asked / 2 + 1) * persons) ≡ halves (graphOf rows targets) persons s t asked
-  all-halves asked =
-      ap (λ (n : ℕ). halvesBefore (graphOf rows targets) rights marks (n * persons)) (add-one (asked / 2))
-      ∙ blocks (graphOf rows targets) rights marks (asked / 2)
-      ∙ ap (λ f. shorterFirst f (asked / 2)) (fun-ext (λ j. flatMap-same _ _ (personsBelow persons) (λ p m. taking-half j p (persons-below persons m)) ∙ row-halves j))
+  starting-half : (j p : ℕ) → startingAt (halfChains (graphOf rows targets) (sought .persons) (sought .from) (sought .to) j) p ≡ cond (ltb p (sought .persons)) (rest-from j p) []
+  starting-half j p = ap (λ h. startingAt h p) (sym (row-halves j)) ∙ starting-row (rest-from j) (sought .persons) p
 
-  starting-half : (j p : ℕ) → p < persons → startingAt (halfChains (graphOf rows targets) persons s t j) p ≡ rest-from j p
-  starting-half j p l = ap (λ h. startingAt h p) (sym (row-halves j)) ∙ starting-row (rest-from j) persons p ∙ rw (lt-ltb p persons l)
+  -- ---- From is marked
 
-  -- what stands at a place
-  at-place : (j p : ℕ) → p < persons → halvesAt (graphOf rows targets) rights marks (placeOf j p) ≡ map (_∷_ p) (rest-from j p)
-  at-place j p l =
-      let d : (j * persons + p) / persons ≡ j = omega arith in
-      let r : (j * persons + p) % persons ≡ p = omega arith in
-      rw (d, r) (taking-half j p l)
+  module _ (marks : List Bool) (marked : Marked marks (sought .from ∷ [])) where
+    from-half : (j p : ℕ) → p < persons → halvesFrom (graphOf rows targets) (sought .to) marks j p ≡ map (_∷_ p) (rest-from j p)
+    unfolding among
+    from-half j p l = rw (marked .each p, following-onward (k .graph) (sought .to) j (set marks p true) (p ∷ sought .from ∷ []) p (marked-more p l marked) l) (go (eqb p (sought .from)))
+      where
+        go : (b : Bool) → cond (cond b true false) [] (map (_∷_ p) (onward (graphOf rows targets) (λ q. eqb q (sought .to)) j (p ∷ sought .from ∷ []) p)) ≡ map (_∷_ p) (cond b [] (onward (graphOf rows targets) (λ q. eqb q (sought .to)) j (p ∷ sought .from ∷ []) p))
+        go true = refl
+        go false = refl
 
-  rest-hops : (j p : ℕ) (w : List ℕ) → w ∈ rest-from j p → length w ≡ j
-  rest-hops j p w m = go (eqb p s) m
-    where
-      go : (b : Bool) → w ∈ cond b [] (onward (graphOf rows targets) (λ q. eqb q t) j (p ∷ s ∷ []) p) → length w ≡ j
-      go true i = absurd (List·Memᴰ·not-nil i)
-      go false i = onward-from (graphOf rows targets) (λ q. eqb q t) j (p ∷ s ∷ []) p i .exactly
+    of-halves : (j : ℕ) → halvesOf (graphOf rows targets) (sought .persons) (sought .to) marks j ≡ halfChains (graphOf rows targets) (sought .persons) (sought .from) (sought .to) j
+    unfolding halvesOf halfChains onward
+    of-halves zero = from-half 0 (sought .to) (omega (arith, k .target, k .known)) ∙ rw (ne-eqb (sought .to) (sought .from) (λ e. k .differ (sym e)), eq-eqb (sought .to) (sought .to) refl)
+    of-halves (suc j) = flatMap-same _ _ (personsBelow (sought .persons)) (λ p m. from-half (suc j) p (omega (arith, persons-below (sought .persons) m, k .known))) ∙ row-halves (suc j)
 
-  module _ (asked : ℕ) (few : asked ≤ mostHops) where
-    abbrev all : List (List ℕ)
-    all = halves (graphOf rows targets) persons s t asked
+    -- all that is handed over
+    pub all-halves : shelfOf (graphOf rows targets) (sought .persons) (sought .to) marks (sought .hops / 2) ≡ all
+    all-halves = ap (λ f. shorterFirst f (sought .hops / 2)) (fun-ext of-halves)
 
-    pub all-fit : (h : List ℕ) → h ∈ all → Fits recordSize h
-    all-fit h m = half-fits (graphOf rows targets) persons s t ne (low-persons k) asked recordSize (omega arith) h m
+    -- the half chains are written; the index says how many stand before each place, and nothing of whoever is no person of the file
+    module _ (working index : List ℕ) (room : length all * recordSize ≤ length working) (wide : mostHops / 2 * suc persons ≤ length index)
+        (notes : (j p : ℕ) → j < sought .hops / 2 → p ≤ sought .persons → getD index (placeOf (suc j) p) 0 ≡ length (halvesBefore (graphOf rows targets) (sought .persons) (sought .to) marks j p))
+        (empty : (j p : ℕ) → sought .persons < p → p ≤ persons → getD index (placeOf (suc j) p) 0 ≡ 0) where
+      before-next : (j p : ℕ) → p < persons → halvesBefore (graphOf rows targets) (sought .persons) (sought .to) marks j (suc p) ≡ halvesBefore (graphOf rows targets) (sought .persons) (sought .to) marks j p ++ map (_∷_ p) (rest-from (suc j) p)
+      before-next j p l =
+          ap (λ (x : List (List ℕ)). shelfOf (graphOf rows targets) (sought .persons) (sought .to) marks j ++ x) (below-next (graphOf rows targets) (sought .to) marks (suc j) p ∙ ap (λ (x : List (List ℕ)). halvesBelow (graphOf rows targets) (sought .to) marks (suc j) p ++ x) (from-half (suc j) p l))
+          ∙ sym (append-assoc (shelfOf (graphOf rows targets) (sought .persons) (sought .to) marks j) (halvesBelow (graphOf rows targets) (sought .to) marks (suc j) p) (map (_∷_ p) (rest-from (suc j) p)))
 
-    all-people : (h : List ℕ) → h ∈ all → Fits recordSize h × ((x : ℕ) → x ∈ h → x < persons)
-    all-people h m = let r = halves-exact (graphOf rows targets) persons s t ne (low-persons k) asked h .0 m .0 in (all-fit h m, half-people k to h (r .last) (r .linked))
-
-    -- the half chains are written, and the index says how many stand before each place
-    module _ (working index : List ℕ) (room : length all * recordSize ≤ length working) (wide : placesAtMost < length index)
-        (indexes : (place : ℕ) → place ≤ (asked / 2 + 1) * persons → getD index place 0 ≡ length (halvesBefore (graphOf rows targets) rights marks place)) where
       -- all of them, in front of a place, at it and behind it
-      parted : (j p : ℕ) → j ≤ asked / 2 → p < persons → (rest : List (List ℕ)) × (all ≡ halvesBefore (graphOf rows targets) rights marks (placeOf j p) ++ (map (_∷_ p) (rest-from j p) ++ rest))
+      parted : (j p : ℕ) → j < sought .hops / 2 → p < sought .persons → (rest : List (List ℕ)) × (all ≡ halvesBefore (graphOf rows targets) (sought .persons) (sought .to) marks j p ++ (map (_∷_ p) (rest-from (suc j) p) ++ rest))
+      unfolding halvesOf
       parted j p h l =
-          let r = before-more (graphOf rows targets) rights marks (suc (placeOf j p)) ((asked / 2 + 1) * persons) (omega arith) in (
-            r .0,
-            sym (all-halves asked) ∙ r .1 ∙ ap (λ (x : List (List ℕ)). x ++ r .0) (before-next (graphOf rows targets) rights marks (placeOf j p) ∙ ap (λ (x : List (List ℕ)). halvesBefore (graphOf rows targets) rights marks (placeOf j p) ++ x) (at-place j p l))
-                ∙ append-assoc (halvesBefore (graphOf rows targets) rights marks (placeOf j p)) (map (_∷_ p) (rest-from j p)) (r .0),
+          let rows-on = further (shelfOf (graphOf rows targets) (sought .persons) (sought .to) marks) (λ i. halvesOf (graphOf rows targets) (sought .persons) (sought .to) marks (suc i)) (shelf-next (graphOf rows targets) (sought .persons) (sought .to) marks) (suc j) (sought .hops / 2) (omega arith) in
+          let persons-on = further (halvesBelow (graphOf rows targets) (sought .to) marks (suc j)) (halvesFrom (graphOf rows targets) (sought .to) marks (suc j)) (below-next (graphOf rows targets) (sought .to) marks (suc j)) (suc p) (sought .persons) (omega arith) in (
+            persons-on .0 ++ rows-on .0,
+            sym all-halves ∙ rows-on .1
+                ∙ ap (λ (x : List (List ℕ)). x ++ rows-on .0) (shelf-next (graphOf rows targets) (sought .persons) (sought .to) marks j ∙ ap (λ (x : List (List ℕ)). shelfOf (graphOf rows targets) (sought .persons) (sought .to) marks j ++ x) (persons-on .1) ∙ sym (append-assoc (shelfOf (graphOf rows targets) (sought .persons) (sought .to) marks j) (halvesBelow (graphOf rows targets) (sought .to) marks (suc j) (suc p)) (persons-on .0)) ∙ ap (λ (x : List (List ℕ)). x ++ persons-on .0) (before-next j p (omega (arith, k .known))))
+                ∙ append-assoc (halvesBefore (graphOf rows targets) (sought .persons) (sought .to) marks j p ++ map (_∷_ p) (rest-from (suc j) p)) (persons-on .0) (rows-on .0)
+                ∙ append-assoc (halvesBefore (graphOf rows targets) (sought .persons) (sought .to) marks j p) (map (_∷_ p) (rest-from (suc j) p)) (persons-on .0 ++ rows-on .0),
           )
 
-      first-index : (j p : ℕ) → j ≤ asked / 2 → p < persons → getD index (placeOf j p) 0 ≡ length (halvesBefore (graphOf rows targets) rights marks (placeOf j p))
-      first-index j p h l = indexes (placeOf j p) (omega arith)
+      next-place : (j p : ℕ) → placeOf (suc j) p + 1 ≡ placeOf (suc j) (suc p)
+      next-place j p = omega arith
 
-      next-index : (j p : ℕ) → j ≤ asked / 2 → p < persons → getD index (placeOf j p + 1) 0 ≡ length (halvesBefore (graphOf rows targets) rights marks (placeOf j p)) + length (map (_∷_ p) (rest-from j p))
-      next-index j p h l =
-          indexes (placeOf j p + 1) (omega arith)
-          ∙ ap (λ (n : ℕ). length (halvesBefore (graphOf rows targets) rights marks n)) (add-one (placeOf j p))
-          ∙ ap length (before-next (graphOf rows targets) rights marks (placeOf j p) ∙ ap (λ (x : List (List ℕ)). halvesBefore (graphOf rows targets) rights marks (placeOf j p) ++ x) (at-place j p l))
-          ∙ length-append (halvesBefore (graphOf rows targets) rights marks (placeOf j p)) (map (_∷_ p) (rest-from j p))
+      next-note : (j p : ℕ) → j < sought .hops / 2 → p < sought .persons → getD index (placeOf (suc j) p + 1) 0 ≡ length (halvesBefore (graphOf rows targets) (sought .persons) (sought .to) marks j p) + length (map (_∷_ p) (rest-from (suc j) p))
+      next-note j p h l =
+          ap (λ (c : ℕ). getD index c 0) (next-place j p)
+          ∙ notes j (suc p) h (omega arith)
+          ∙ ap length (before-next j p (omega (arith, k .known)))
+          ∙ length-append (halvesBefore (graphOf rows targets) (sought .persons) (sought .to) marks j p) (map (_∷_ p) (rest-from (suc j) p))
 
-      pub rights-index : (j : ℕ) → j ≤ asked / 2 → (p : ℕ) → p < persons → rightsOf (written recordSize all working) index j p ≡ startingAt (halfChains (graphOf rows targets) persons s t j) p
+      next-empty : (j p : ℕ) → sought .persons ≤ p → p < persons → getD index (placeOf (suc j) p + 1) 0 ≡ 0
+      next-empty j p h l = ap (λ (c : ℕ). getD index c 0) (next-place j p) ∙ empty j (suc p) (omega arith) (omega arith)
+
+      same : (ws : List (List ℕ)) → map (λ w. w) ws ≡ ws
+      same [] = refl
+      same (w ∷ ws) = ap (_∷_ w) (same ws)
+
+      -- those of one hop or more that start at a person of the file, and of whoever is none
+      rights-file : (j p : ℕ) → j < sought .hops / 2 → p < sought .persons → indexedAt (written recordSize all working) index (suc j) p ≡ startingAt (halfChains (graphOf rows targets) (sought .persons) (sought .from) (sought .to) (suc j)) p
       unfolding written
-      rights-index j h p l =
-          let a = halvesBefore (graphOf rows targets) rights marks (placeOf j p) in
-          let b = map (_∷_ p) (rest-from j p) in
+      rights-file j p h l =
+          let a = halvesBefore (graphOf rows targets) (sought .persons) (sought .to) marks j p in
+          let b = map (_∷_ p) (rest-from (suc j) p) in
           let q = parted j p h l in
-          let n : getD index (placeOf j p + 1) 0 - getD index (placeOf j p) 0 ≡ length b = omega (arith, first-index j p h l, next-index j p h l) in
-          ap (λ (m : ℕ). restsOf (written recordSize all working) j (getD index (placeOf j p) 0) m) n
-          ∙ ap (λ (m : ℕ). restsOf (written recordSize all working) j m (length b)) (first-index j p h l)
-          ∙ ap (λ (x : List (List ℕ)). restsOf (cellsOf recordSize x ++ drop (length all * recordSize) working) j (length a) (length b)) (q .1)
-          ∙ rests-cells j a b (q .0) (drop (length all * recordSize) working)
+          let n : getD index (placeOf (suc j) p + 1) 0 - getD index (placeOf (suc j) p) 0 ≡ length b = omega (arith, notes j p h (omega arith), next-note j p h l) in
+          ap (λ (m : ℕ). restsOf (written recordSize all working) (suc j) (getD index (placeOf (suc j) p) 0) m) n
+          ∙ ap (λ (m : ℕ). restsOf (written recordSize all working) (suc j) m (length b)) (notes j p h (omega arith))
+          ∙ ap (λ (x : List (List ℕ)). restsOf (cellsOf recordSize x ++ drop (length all * recordSize) working) (suc j) (length a) (length b)) (q .1)
+          ∙ rests-cells (suc j) a b (q .0) (drop (length all * recordSize) working)
           (λ d m. all-fit d (subst (λ x. d ∈ x) (sym (q .1)) (Memᴰ·append-left (b ++ q .0) m)))
-          (λ d m. (all-fit d (subst (λ x. d ∈ x) (sym (q .1)) (Memᴰ·append-right a (Memᴰ·append-left (q .0) m))), let r = Memᴰ·of-map (_∷_ p) (rest-from j p) m in subst (λ x. hops x ≡ j) (r .2) (rest-hops j p (r .0) (r .1))))
-          ∙ map-map behind (_∷_ p) (rest-from j p)
-          ∙ same (rest-from j p)
-          ∙ sym (starting-half j p l)
-        where
-          same : (ws : List (List ℕ)) → map (λ w. w) ws ≡ ws
-          same [] = refl
-          same (w ∷ ws) = ap (_∷_ w) (same ws)
+          (λ d m. (all-fit d (subst (λ x. d ∈ x) (sym (q .1)) (Memᴰ·append-right a (Memᴰ·append-left (q .0) m))), let r = Memᴰ·of-map (_∷_ p) (rest-from (suc j) p) m in subst (λ x. hops x ≡ suc j) (r .2) (rest-hops (suc j) p (r .0) (r .1))))
+          ∙ map-map behind (_∷_ p) (rest-from (suc j) p)
+          ∙ same (rest-from (suc j) p)
+          ∙ sym (starting-half (suc j) p ∙ rw (lt-ltb p (sought .persons) l))
+
+      rights-other : (j p : ℕ) → sought .persons ≤ p → p < persons → indexedAt (written recordSize all working) index (suc j) p ≡ startingAt (halfChains (graphOf rows targets) (sought .persons) (sought .from) (sought .to) (suc j)) p
+      unfolding restsOf
+      rights-other j p h l =
+          let n : getD index (placeOf (suc j) p + 1) 0 - getD index (placeOf (suc j) p) 0 ≡ 0 = omega (arith, next-empty j p h l) in
+          ap (λ (m : ℕ). restsOf (written recordSize all working) (suc j) (getD index (placeOf (suc j) p) 0) m) n
+          ∙ sym (starting-half (suc j) p ∙ rw (le-ltb p (sought .persons) h))
+
+      pub rights-index : (j : ℕ) → j ≤ sought .hops / 2 → (p : ℕ) → p < persons → rightsOf (written recordSize all working) index (sought .to) j p ≡ startingAt (halfChains (graphOf rows targets) (sought .persons) (sought .from) (sought .to) j) p
+      unfolding startingAt halfChains
+      rights-index zero h p l = refl
+      rights-index (suc j) h p l = rw (ne-eqb (suc j) 0 (λ e. omega arith)) (⊎-elim (rights-file j p (omega arith)) (λ i. rights-other j p i l) (lt-or-le p (sought .persons)))
 
       written-long : length (written recordSize all working) ≡ length working
       written-long = length-written recordSize all working all-fit room
 
-      pub indexed-halves : (j : ℕ) → j ≤ asked / 2 → Indexed (written recordSize all working) index j
+      -- no end of the index is behind all
+      ends : (j p : ℕ) → j < sought .hops / 2 → p < persons → getD index (placeOf (suc j) p + 1) 0 ≤ length all
+      ends j p h l =
+          ⊎-elim
+          (λ i. let q = parted j p h i in
+          omega (arith, next-note j p h i, ap length (q .1), length-append (halvesBefore (graphOf rows targets) (sought .persons) (sought .to) marks j p) (map (_∷_ p) (rest-from (suc j) p) ++ q .0), length-append (map (_∷_ p) (rest-from (suc j) p)) (q .0)))
+          (λ i. omega (arith, next-empty j p i l))
+          (lt-or-le p (sought .persons))
+
+      pub indexed-halves : (j : ℕ) → 1 ≤ j → j ≤ sought .hops / 2 → Indexed (written recordSize all working) index j
       unfolding written
-      indexed-halves j h = record {
-        within = omega (arith, wide);
-        rise = λ p l. omega (arith, first-index j p h l, next-index j p h l);
-        there = λ p l. omega (arith, part-all p l, room, written-long, next-index j p h l);
-        people = λ p l c i.
-            let inside : c < length (cellsOf recordSize all) = omega (arith, length-cellsOf recordSize all all-fit, part-all p l, next-index j p h l) in
+      indexed-halves zero i h = absurd (omega arith)
+      indexed-halves (suc j) i h = record {
+        some = i;
+        within = omega (arith, wide, h, k .few);
+        there = λ p l. omega (arith, ends j p (omega arith) l, room, written-long);
+        people = λ p l c m.
+            let inside : c < length (cellsOf recordSize all) = omega (arith, length-cellsOf recordSize all all-fit, ends j p (omega arith) l, m) in
             rw (List·getD-append (cellsOf recordSize all) (drop (length all * recordSize) working) 0 c inside) (cells-people all all-people (getD (cellsOf recordSize all) c 0) (getD-in (cellsOf recordSize all) c inside));
       }
-        where
-          part-all : (p : ℕ) → p < persons → length (halvesBefore (graphOf rows targets) rights marks (placeOf j p)) + length (map (_∷_ p) (rest-from j p)) ≤ length all
-          part-all p l =
-              let q = parted j p h l in
-              omega (arith, ap length (q .1), length-append (halvesBefore (graphOf rows targets) rights marks (placeOf j p)) (map (_∷_ p) (rest-from j p) ++ q .0), length-append (map (_∷_ p) (rest-from j p)) (q .0))

@@ -9,11 +9,11 @@ use native.Mathlib.Nat.{add-zero, add-assoc, le-refl}
 use borrow.Author.Tests.{eq-eqb, ne-eqb, lt-ltb, le-ltb}
 use Rattle.ways.specs.Sizes.{recordSize}
 use Rattle.pages.specs.Pages.{recordWith}
+use Rattle.pages.specs.declared.HandedOver.{HandedOver}
 use Rattle.pages.proofs.Copying.{Copying, copy-turn, paste-set}
 use Rattle.pages.proofs.Recording.{recordWith-paste}
-use Rattle.half_chains.specs.Pages.{part, Behind, Room, Handed}
-use Rattle.half_chains.specs.declared.extend.Walk.{Walk}
-use Rattle.half_chains.specs.declared.extend.Found.{Found}
+use Rattle.half_chains.specs.Pages.{part, Behind, Room, Handed, Ending, Ended}
+use Rattle.half_chains.specs.declared.traces.Trace.{Trace}
 
 -- ---- `append`
 
@@ -58,27 +58,35 @@ put-record out at chain len halves from rest fits long there short =
     ∙ paste-set out at whole recordSize 0 (len + rest - 1) (omega arith) (omega (arith, size-whole)) (omega arith)
     ∙ ap (λ (r : List ℕ). paste out at r recordSize) (sym built)
 
-module _ {halves out chain : List ℕ} {w : Walk} {from : ℕ} {found : Found} (k : Room halves out chain w from found) where
+module _ {halves out chain : List ℕ} {w : Trace} {from : ℕ} {before : HandedOver} (k : Room halves out chain w from before) where
   -- no room
-  pub hand-full : w .room ≤ found .count → Handed halves out out chain w from found (record { count = found .count; more = 1 })
-  hand-full h = record { right = rw (eq-eqb (found .more) 0 (k .none), le-ltb (found .count) (w .room) h) }
+  pub hand-full : w .room ≤ before .count → Handed halves out out chain w from before (record { count = before .count; more = 1 })
+  hand-full h = record { right = rw (eq-eqb (before .more) 0 (k .none), le-ltb (before .count) (w .room) h) }
 
   -- only counted
-  pub hand-count : found .count < w .room → w .writes ≡ 0 → Handed halves out out chain w from found (record { count = found .count + 1; more = 0 })
-  hand-count h z = record { right = rw (eq-eqb (found .more) 0 (k .none), lt-ltb (found .count) (w .room) h, eq-eqb (w .writes) 0 z) }
+  pub hand-count : before .count < w .room → w .writes ≡ 0 → Handed halves out out chain w from before (record { count = before .count + 1; more = 0 })
+  hand-count h z = record { right = rw (eq-eqb (before .more) 0 (k .none), lt-ltb (before .count) (w .room) h, eq-eqb (w .writes) 0 z) }
 
-  pub hand-fits : found .count < w .room → found .count * recordSize + recordSize ≤ length out
+  pub hand-fits : before .count < w .room → before .count * recordSize + recordSize ≤ length out
   hand-fits h = omega (arith, k .room)
 
-  pub hand-behind : {out′ : List ℕ} → found .count < w .room → out′ ≡ paste out (found .count * recordSize) chain recordSize → Behind out′ (found .count * recordSize + (w .len + 1)) halves from (w .rest)
+  pub hand-behind : {out′ : List ℕ} → before .count < w .room → out′ ≡ paste out (before .count * recordSize) chain recordSize → Behind out′ (before .count * recordSize + (w .len + 1)) halves from (w .rest)
   hand-behind {out′} h e =
-      let long : length out′ ≡ length out = ap length e ∙ length-paste out (found .count * recordSize) chain recordSize (hand-fits h) (omega (arith, k .long)) in
+      let long : length out′ ≡ length out = ap length e ∙ length-paste out (before .count * recordSize) chain recordSize (hand-fits h) (omega (arith, k .long)) in
       record { fits = omega (arith, long, hand-fits h, k .short); there = k .there }
 
   -- written
-  pub hand-put : {out′ out″ : List ℕ} → found .count < w .room → (w .writes ≡ 0 → ⊥) → out′ ≡ paste out (found .count * recordSize) chain recordSize
-      → out″ ≡ paste out′ (found .count * recordSize + (w .len + 1)) (drop from halves) (w .rest)
-      → Handed halves out (set out″ (found .count * recordSize) (w .len + w .rest - 1)) chain w from found (record { count = found .count + 1; more = 0 })
+  pub hand-put : {out′ out″ : List ℕ} → before .count < w .room → (w .writes ≡ 0 → ⊥) → out′ ≡ paste out (before .count * recordSize) chain recordSize
+      → out″ ≡ paste out′ (before .count * recordSize + (w .len + 1)) (drop from halves) (w .rest)
+      → Handed halves out (set out″ (before .count * recordSize) (w .len + w .rest - 1)) chain w from before (record { count = before .count + 1; more = 0 })
   hand-put h n e f = record {
-    right = rw (eq-eqb (found .more) 0 (k .none), lt-ltb (found .count) (w .room) h, ne-eqb (w .writes) 0 n, f, e, put-record out (found .count * recordSize) chain (w .len) halves from (w .rest) (hand-fits h) (k .long) (k .there) (k .short));
+    right = rw (eq-eqb (before .more) 0 (k .none), lt-ltb (before .count) (w .room) h, ne-eqb (w .writes) 0 n, f, e, put-record out (before .count * recordSize) chain (w .len) halves from (w .rest) (hand-fits h) (k .long) (k .there) (k .short));
   }
+
+-- without a right half
+module _ {halves out chain : List ℕ} {w : Trace} {before : HandedOver} (k : Ending halves out chain w before) where
+  pub end-elsewhere : (w .last ≡ w .to → ⊥) → Ended out out chain w before before
+  end-elsewhere n = record { right = rw (ne-eqb (w .last) (w .to) n) }
+
+  pub end-whole : {out′ : List ℕ} {after : HandedOver} → w .last ≡ w .to → Handed halves out out′ chain w 0 before after → Ended out out′ chain w before after
+  end-whole t h = record { right = rw (eq-eqb (w .last) (w .to) t) (rw (k .whole) at (h .right)) }

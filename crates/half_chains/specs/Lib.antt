@@ -1,4 +1,4 @@
 -- What the functions of this room ask, and what they do: records, the recursion, and writing and gathering. Definitions only.
 pub mod Pages
-pub mod Walks
+pub mod Traces
 pub mod Shelf

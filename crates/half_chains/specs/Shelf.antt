@@ -2,71 +2,103 @@
 use mathlib.Core.Path.{_≡_}
 use mathlib.Core.Bool.{Bool}
 use mathlib.Core.List.{List, [], _++_, map, flatMap}
-use Prim.Native.Nat.{ℕ, zero, suc, _+_, _*_, _/_, _%_, _≤_, _<_}
-use lib.ListN.{length, getD, set, replicate}
-use Rattle.ways.specs.Graph.{Graph}
+use mathlib.Core.Logic.{_≢_}
+use Prim.Native.Nat.{ℕ, zero, suc, _+_, _*_, _/_, _≤_, _<_}
+use lib.ListN.{length, getD, set}
+use Rattle.ways.specs.Graph.{Graph, _∈_}
+use Rattle.ways.specs.ByHops.{shorterFirst}
 use Rattle.ways.specs.Halves.{personsBelow}
 use Rattle.ways.specs.Join.{leftHops, rightHops}
 use Rattle.ways.specs.Sizes.{recordSize, mostHops}
 use Rattle.compact.specs.Compact.{persons, graphOf, Compact}
 use Rattle.pages.specs.Pages.{emits, blank, recordWith}
+use Rattle.pages.specs.declared.HandedOver.{HandedOver}
 use Rattle.half_chains.specs.Pages.{page}
-use Rattle.half_chains.specs.Walks.{rightsOf, Indexed, following, taking}
-use Rattle.half_chains.specs.declared.extend.Walk.{Walk}
-use Rattle.half_chains.specs.declared.extend.Found.{Found}
+use Rattle.half_chains.specs.Traces.{endingAt, placeOf, rightsOf, Indexed, following, taking}
+use Rattle.half_chains.specs.declared.traces.Sought.{Sought}
+use Rattle.half_chains.specs.declared.traces.Trace.{Trace}
 
--- the index of (To) alone: it stands before everybody behind To
-pub record Lone (ending : List ℕ) (to : ℕ) : Type 0 where
-  pub fresh : ending ≡ replicate (suc persons) 0
-  pub place : to < persons
-
-pub record Ended (ending : List ℕ) (to : ℕ) : Type 0 where
-  pub long : length ending ≡ suc persons
-  pub low : (p : ℕ) → p ≤ to → getD ending p 0 ≡ 0
-  pub high : (p : ℕ) → to < p → p < suc persons → getD ending p 0 ≡ 1
+-- chains are sought in a compact graph of so many persons: whoever is none of them has no links
+pub record Seeking (rows targets : List ℕ) (sought : Sought) : Type 0 where
+  pub graph : Compact rows targets
+  pub known : sought .persons ≤ persons
+  pub low : (p v : ℕ) → v ∈ graphOf rows targets p → p < sought .persons
+  pub source : sought .from < sought .persons
+  pub target : sought .to < sought .persons
+  pub differ : sought .from ≢ sought .to
+  pub few : sought .hops ≤ mostHops
 
 -- nothing handed over, nothing noted
-abbrev pub nothing : Found
+abbrev pub nothing : HandedOver
 nothing = record { count = 0; more = 0 }
 
--- the half chains of so many hops that begin with p
-pub record Begin (rows targets only ending : List ℕ) (marks : List Bool) (working : List ℕ) (w : Walk) (p : ℕ) (found : Found) : Type 0 where
+-- the half chains of so many hops that begin with the last person of the trace: no right half is behind them
+pub record Begin (rows targets : List ℕ) (marks : List Bool) (working : List ℕ) (w : Trace) (before : HandedOver) : Type 0 where
   pub graph : Compact rows targets
-  pub indexed : Indexed only ending (w .rest)
-  pub place : p < persons
   pub wide : length marks ≡ persons
   pub room : w .room * recordSize ≤ length working
+  pub whole : w .rest ≡ 0
   pub first : w .len ≡ 1
-  pub short : w .left + w .rest + 1 < recordSize
-  pub none : found .more ≡ 0
+  pub short : w .left + 1 < recordSize
+  pub place : w .last < persons
+  pub none : before .more ≡ 0
 
-pub record Begun (rows targets only ending : List ℕ) (marks marks′ : List Bool) (working working′ : List ℕ) (w : Walk) (p : ℕ) (found found′ : Found) : Type 0 where
+-- the half chains of so many hops that begin with p
+abbrev pub halvesFrom : Graph → ℕ → List Bool → ℕ → ℕ → List (List ℕ)
+halvesFrom g to marks hops p = taking g (endingAt to) hops marks p
+
+-- those that begin with a person below p
+abbrev pub halvesBelow : Graph → ℕ → List Bool → ℕ → ℕ → List (List ℕ)
+halvesBelow g to marks hops p = flatMap (halvesFrom g to marks hops) (personsBelow p)
+
+pub record Begun (rows targets : List ℕ) (marks marks′ : List Bool) (working working′ : List ℕ) (w : Trace) (before after : HandedOver) : Type 0 where
   pub same : marks′ ≡ marks
-  pub right : page found′ working′ ≡ emits (w .writes) (w .room) (page found working) (map (recordWith blank 0) (taking (graphOf rows targets) (rightsOf only ending (w .rest)) (w .left) marks p))
+  pub right : page after working′ ≡ emits (w .writes) (w .room) (page before working) (map (recordWith blank 0) (halvesFrom (graphOf rows targets) (w .to) marks (w .left) (w .last)))
 
--- the half chains of a place of the index: so many hops, such a first person
-abbrev pub halvesAt : Graph → (ℕ → List (List ℕ)) → List Bool → ℕ → List (List ℕ)
-halvesAt g rights marks place = taking g rights (place / persons) marks (place % persons)
-
--- those of all places before one
-abbrev pub halvesBefore : Graph → (ℕ → List (List ℕ)) → List Bool → ℕ → List (List ℕ)
-halvesBefore g rights marks place = flatMap (halvesAt g rights marks) (personsBelow place)
-
--- the places of the index: "0 to k/2 hops", and each first person
-abbrev pub placesAtMost : ℕ
-placesAtMost = (mostHops / 2 + 1) * persons
-
-pub record Shelve (rows targets only ending : List ℕ) (marks : List Bool) (index working : List ℕ) (writes places : ℕ) : Type 0 where
+-- those of so many hops, one or more, that begin with one of the n persons of the file
+pub record First (rows targets : List ℕ) (marks : List Bool) (index working : List ℕ) (n : ℕ) (w : Trace) (before : HandedOver) : Type 0 where
   pub graph : Compact rows targets
-  pub indexed : Indexed only ending 0
   pub wide : length marks ≡ persons
-  pub within : places < length index
-  pub few : places ≤ placesAtMost
+  pub room : w .room * recordSize ≤ length working
+  pub whole : w .rest ≡ 0
+  pub first : w .len ≡ 1
+  pub some : 1 ≤ w .left
+  pub short : w .left + 1 < recordSize
+  pub known : n ≤ persons
+  pub within : placeOf (w .left) persons < length index
+  pub none : before .more ≡ 0
 
-pub record Shelved (rows targets only ending : List ℕ) (marks marks′ : List Bool) (index′ working working′ : List ℕ) (writes places : ℕ) (found : Found) : Type 0 where
+-- the index notes before whose half chains how many stand, and changes in no other place
+pub record Firsts (rows targets : List ℕ) (marks marks′ : List Bool) (index index′ working working′ : List ℕ) (n : ℕ) (w : Trace) (before after : HandedOver) : Type 0 where
   pub same : marks′ ≡ marks
-  pub right : page found working′ ≡ emits writes (length working / recordSize) (page nothing working) (map (recordWith blank 0) (halvesBefore (graphOf rows targets) (rightsOf only ending 0) marks places))
-  pub indexes : found .more ≡ 0 → (place : ℕ) → place ≤ places → getD index′ place 0 ≡ length (halvesBefore (graphOf rows targets) (rightsOf only ending 0) marks place)
+  pub right : page after working′ ≡ emits (w .writes) (w .room) (page before working) (map (recordWith blank 0) (halvesBelow (graphOf rows targets) (w .to) marks (w .left) n))
+  pub notes : after .more ≡ 0 → (p : ℕ) → p ≤ n → getD index′ (placeOf (w .left) p) 0 ≡ before .count + length (halvesBelow (graphOf rows targets) (w .to) marks (w .left) p)
+  pub others : (c : ℕ) → ((p : ℕ) → p ≤ n → c ≢ placeOf (w .left) p) → getD index′ c 0 ≡ getD index c 0
+
+-- those of exactly so many hops: (To) alone, or by their first person
+unfoldable pub halvesOf : Graph → ℕ → ℕ → List Bool → ℕ → List (List ℕ)
+halvesOf g n to marks zero = halvesFrom g to marks 0 to
+halvesOf g n to marks (suc j) = halvesBelow g to marks (suc j) n
+
+-- all of at most so many hops, shorter first
+abbrev pub shelfOf : Graph → ℕ → ℕ → List Bool → ℕ → List (List ℕ)
+shelfOf g n to marks = shorterFirst (halvesOf g n to marks)
+
+-- those before the ones of j + 1 hops that begin with p
+abbrev pub halvesBefore : Graph → ℕ → ℕ → List Bool → ℕ → ℕ → List (List ℕ)
+halvesBefore g n to marks j p = shelfOf g n to marks j ++ halvesBelow g to marks (suc j) p
+
+-- a row of the index for each number of hops, "0 to k/2 hops", but none for (To) alone
+pub record Shelve (rows targets : List ℕ) (marks : List Bool) (index working : List ℕ) (sought : Sought) (writes : ℕ) : Type 0 where
+  pub seeking : Seeking rows targets sought
+  pub wide : length marks ≡ persons
+  pub within : mostHops / 2 * suc persons ≤ length index
+
+pub record Shelved (rows targets : List ℕ) (marks marks′ : List Bool) (index index′ working working′ : List ℕ) (sought : Sought) (writes : ℕ) (after : HandedOver) : Type 0 where
+  pub same : marks′ ≡ marks
+  pub right : page after working′ ≡ emits writes (length working / recordSize) (page nothing working) (map (recordWith blank 0) (shelfOf (graphOf rows targets) (sought .persons) (sought .to) marks (sought .hops / 2)))
+  pub notes : after .more ≡ 0 → (j p : ℕ) → j < sought .hops / 2 → p ≤ sought .persons → getD index′ (placeOf (suc j) p) 0 ≡ length (halvesBefore (graphOf rows targets) (sought .persons) (sought .to) marks j p)
+  pub others : (j p : ℕ) → sought .persons < p → p ≤ persons → getD index′ (placeOf (suc j) p) 0 ≡ getD index (placeOf (suc j) p) 0
 
 -- the lists of 1, 2, .. up to k hops, one after the other
 unfoldable pub fromOne : (ℕ → List (List ℕ)) → ℕ → List (List ℕ)
@@ -74,16 +106,14 @@ fromOne f zero = []
 fromOne f (suc k) = fromOne f k ++ f (suc k)
 
 -- the ways on from From to a chain of L hops, "the left half has L/2 hops rounded up, the right half the rest"
-abbrev pub waysOf : Graph → List ℕ → List ℕ → List Bool → ℕ → ℕ → List (List ℕ)
-waysOf g halves index marks from L = following g (rightsOf halves index (rightHops L)) (leftHops L) marks from
+abbrev pub waysOf : Graph → List ℕ → List ℕ → List Bool → ℕ → ℕ → ℕ → List (List ℕ)
+waysOf g halves index marks from to L = following g (rightsOf halves index to (rightHops L)) (leftHops L) marks from
 
-pub record Gather (rows targets halves index : List ℕ) (marks : List Bool) (out : List ℕ) (from hops : ℕ) : Type 0 where
-  pub graph : Compact rows targets
-  pub indexed : (rest : ℕ) → rest ≤ hops / 2 → Indexed halves index rest
+pub record Gather (rows targets halves index : List ℕ) (marks : List Bool) (out : List ℕ) (sought : Sought) : Type 0 where
+  pub seeking : Seeking rows targets sought
+  pub indexed : (rest : ℕ) → 1 ≤ rest → rest ≤ sought .hops / 2 → Indexed halves index rest
   pub wide : length marks ≡ persons
-  pub place : from < persons
-  pub few : hops ≤ mostHops
 
-pub record Gathered (rows targets halves index : List ℕ) (marks marks′ : List Bool) (out out′ : List ℕ) (from hops : ℕ) (found : Found) : Type 0 where
+pub record Gathered (rows targets halves index : List ℕ) (marks marks′ : List Bool) (out out′ : List ℕ) (sought : Sought) (after : HandedOver) : Type 0 where
   pub same : marks′ ≡ marks
-  pub right : page found out′ ≡ emits 1 (length out / recordSize) (page nothing out) (map (recordWith (set blank 1 from) 1) (fromOne (waysOf (graphOf rows targets) halves index marks from) hops))
+  pub right : page after out′ ≡ emits 1 (length out / recordSize) (page nothing out) (map (recordWith (set blank 1 (sought .from)) 1) (fromOne (waysOf (graphOf rows targets) halves index marks (sought .from) (sought .to)) (sought .hops)))

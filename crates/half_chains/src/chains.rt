@@ -1,13 +1,15 @@
 // The chains: of 1, 2, .. hops, by their left halves, each with its right halves.
 ghost use Rattle.half_chains.specs.Shelf.{Gather, Gathered};
-use crate::extend::Found;
-use crate::extend::Walk;
+use crate::traces::Sought;
+use crate::traces::Trace;
+use crate::traces::WRITE;
 use compact::LINKS;
 use compact::PERSONS;
 use compact::STARTS;
+use pages::HandedOver;
 use ways::RECORD;
 
-// Hands over the chains from `from` of at most `hops` hops, shorter first, while there is room.
+// Hands over the chains that are sought, shorter first, while there is room.
 pub fn gather(
     rows: &[u16; STARTS],
     targets: &[u16; LINKS],
@@ -15,42 +17,30 @@ pub fn gather(
     index: &[usize],
     marks: &mut [bool; PERSONS],
     out: &mut [u32],
-    from: usize,
-    hops: usize,
-) -> Found
-    requires { ⌜ Gather (now rows) (now targets) (now halves) (now index) (now marks) (now out) from hops ⌝ }
-    ensures { λ r. ⌜ Gathered (now (rows .entry)) (now (targets .entry)) (now (halves .entry)) (now (index .entry)) (now (marks .entry)) (now (marks .exit)) (now (out .entry)) (now (out .exit)) from hops r ⌝ }
+    sought: Sought,
+) -> HandedOver
+    requires { ⌜ Gather (now rows) (now targets) (now halves) (now index) (now marks) (now out) sought ⌝ }
+    ensures { λ r. ⌜ Gathered (now (rows .entry)) (now (targets .entry)) (now (halves .entry)) (now (index .entry)) (now (marks .entry)) (now (marks .exit)) (now (out .entry)) (now (out .exit)) sought r ⌝ }
 {
+    let hops = sought.hops;
     let room = out.len() / RECORD;
     let mut chain = [0u32; RECORD];
-    chain[1] = from as u32;
-    let mut got = Found { count: 0, more: 0 };
+    chain[1] = sought.from as u32;
+    let mut got = HandedOver { count: 0, more: 0 };
     let mut length = 0;
-    while length < hops {
+    while length < hops && got.more == 0 {
         length += 1;
         let left = (length + 1) / 2;
-        let w = Walk {
-            writes: crate::halves::WRITE,
+        let trace = Trace {
+            to: sought.to,
+            writes: WRITE,
             room: room,
             rest: length - left,
             len: 1,
             left: left,
+            last: sought.from,
         };
-        got = crate::extend::extend(
-            rows,
-            targets,
-            halves,
-            index,
-            marks,
-            out,
-            chain,
-            w,
-            from,
-            got,
-        );
-        if got.more != 0 {
-            return got;
-        }
+        got = crate::extend::extend(rows, targets, halves, index, marks, out, chain, trace, got);
     }
     got
 }

@@ -1,110 +1,125 @@
 // The half chains, from each number of hops and each first person in turn: counted, or written with the index of them.
-ghost use Rattle.half_chains.specs.Shelf.{Lone, Ended, Begin, Begun, Shelve, Shelved};
-use crate::extend::Found;
-use crate::extend::Walk;
+ghost use Rattle.half_chains.specs.Shelf.{Begin, Begun, Shelve, Shelved, First, Firsts};
+use crate::traces::Sought;
+use crate::traces::Trace;
 use compact::LINKS;
 use compact::PERSONS;
 use compact::STARTS;
+use pages::HandedOver;
 use ways::RECORD;
 
-// What the half chains are gone through for: to be counted, or to be written.
-pub const COUNT: usize = 0;
-
-pub const WRITE: usize = 1;
-
-// The index of the one half chain without a hop: (To) alone.
-pub fn lone(ending: &mut [usize; STARTS], to: usize)
-    requires { ⌜ Lone (now ending) to ⌝ }
-    ensures { λ _. ⌜ Ended (now (ending .exit)) to ⌝ }
-{
-    let mut p = to + 1;
-    while p < STARTS {
-        ending[p] = 1;
-        p += 1;
-    }
-}
-
-// The half chains whose first person is p. From is marked: no half chain begins with him.
+// The half chains that begin with the last person of the trace, who is also its first. From is marked: none begins with that
+// person. No right half is looked up, so none is lent.
 fn begin(
     rows: &[u16; STARTS],
     targets: &[u16; LINKS],
-    only: &[u32],
-    ending: &[usize],
     marks: &mut [bool; PERSONS],
     working: &mut [u32],
-    w: Walk,
-    p: usize,
-    found: Found,
-) -> Found
-    requires { ⌜ Begin (now rows) (now targets) (now only) (now ending) (now marks) (now working) w p found ⌝ }
-    ensures { λ r. ⌜ Begun (now (rows .entry)) (now (targets .entry)) (now (only .entry)) (now (ending .entry)) (now (marks .entry)) (now (marks .exit)) (now (working .entry)) (now (working .exit)) w p found r ⌝ }
+    trace: Trace,
+    before: HandedOver,
+) -> HandedOver
+    requires { ⌜ Begin (now rows) (now targets) (now marks) (now working) trace before ⌝ }
+    ensures { λ r. ⌜ Begun (now (rows .entry)) (now (targets .entry)) (now (marks .entry)) (now (marks .exit)) (now (working .entry)) (now (working .exit)) trace before r ⌝ }
 {
+    let p = trace.last;
     if marks[p] {
-        return found;
+        return before;
     }
+    let halves = [0u32; 0];
+    let index = [0usize; 0];
     let mut chain = [0u32; RECORD];
     chain[1] = p as u32;
     marks[p] = true;
     let got = crate::extend::extend(
         rows,
         targets,
-        only,
-        ending,
+        &halves,
+        &index,
         marks,
         working,
         chain,
-        w,
-        p,
-        found,
+        trace,
+        before,
     );
     marks[p] = false;
     got
 }
 
-// All half chains, shorter first, then in dictionary order. The index notes for each number of hops and each person how
-// many half chains came before his.
-pub fn shelve(
+// The half chains of so many hops, by their first person. The row of the index for these hops notes for each person how many half
+// chains came before theirs, and in the end how many there are.
+fn by_first_person(
     rows: &[u16; STARTS],
     targets: &[u16; LINKS],
-    only: &[u32],
-    ending: &[usize],
     marks: &mut [bool; PERSONS],
     index: &mut [usize],
     working: &mut [u32],
-    writes: usize,
-    places: usize,
-) -> Found
-    requires { ⌜ Shelve (now rows) (now targets) (now only) (now ending) (now marks) (now index) (now working) writes places ⌝ }
-    ensures { λ r. ⌜ Shelved (now (rows .entry)) (now (targets .entry)) (now (only .entry)) (now (ending .entry)) (now (marks .entry)) (now (marks .exit)) (now (index .exit)) (now (working .entry)) (now (working .exit)) writes places r ⌝ }
+    persons: usize,
+    trace: Trace,
+    before: HandedOver,
+) -> HandedOver
+    requires { ⌜ First (now rows) (now targets) (now marks) (now index) (now working) persons trace before ⌝ }
+    ensures { λ r. ⌜ Firsts (now (rows .entry)) (now (targets .entry)) (now (marks .entry)) (now (marks .exit)) (now (index .entry)) (now (index .exit)) (now (working .entry)) (now (working .exit)) persons trace before r ⌝ }
 {
-    let room = working.len() / RECORD;
-    let mut got = Found { count: 0, more: 0 };
-    let mut place = 0;
-    while place < places {
-        index[place] = got.count;
-        let w = Walk {
-            writes: writes,
-            room: room,
-            rest: 0,
-            len: 1,
-            left: place / PERSONS,
-        };
-        got = begin(
+    let row = (trace.left - 1) * STARTS;
+    let mut got = before;
+    let mut p = 0;
+    while p < persons && got.more == 0 {
+        index[row + p] = got.count;
+        let mut first = trace;
+        first.last = p;
+        got = begin(rows, targets, marks, working, first, got);
+        p += 1;
+    }
+    index[row + persons] = got.count;
+    got
+}
+
+// All half chains, shorter first, then in dictionary order: (To) alone, and those of 1, 2, .. hops.
+pub fn shelve(
+    rows: &[u16; STARTS],
+    targets: &[u16; LINKS],
+    marks: &mut [bool; PERSONS],
+    index: &mut [usize],
+    working: &mut [u32],
+    sought: Sought,
+    writes: usize,
+) -> HandedOver
+    requires { ⌜ Shelve (now rows) (now targets) (now marks) (now index) (now working) sought writes ⌝ }
+    ensures { λ r. ⌜ Shelved (now (rows .entry)) (now (targets .entry)) (now (marks .entry)) (now (marks .exit)) (now (index .entry)) (now (index .exit)) (now (working .entry)) (now (working .exit)) sought writes r ⌝ }
+{
+    let most = sought.hops / 2;
+    let alone = Trace {
+        to: sought.to,
+        writes: writes,
+        room: working.len() / RECORD,
+        rest: 0,
+        len: 1,
+        left: 0,
+        last: sought.to,
+    };
+    let mut got = begin(
+        rows,
+        targets,
+        marks,
+        working,
+        alone,
+        HandedOver { count: 0, more: 0 },
+    );
+    let mut hops = 0;
+    while hops < most && got.more == 0 {
+        hops += 1;
+        let mut trace = alone;
+        trace.left = hops;
+        got = by_first_person(
             rows,
             targets,
-            only,
-            ending,
             marks,
+            index,
             working,
-            w,
-            place % PERSONS,
+            sought.persons,
+            trace,
             got,
         );
-        if got.more != 0 {
-            return got;
-        }
-        place += 1;
     }
-    index[place] = got.count;
     got
 }

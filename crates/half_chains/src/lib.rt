@@ -8,10 +8,11 @@ pub mod extend;
 pub mod halves;
 mod pairs;
 mod records;
+pub mod traces;
 
-use compact::PERSONS;
+use compact::STARTS;
 use ways::HOPS;
 
-// The index of the half chains, which have at most half the hops, has a place for each number of hops and each first person, and
-// an end.
-pub const INDEX: usize = (HOPS / 2 + 1) * PERSONS + 1;
+// The index of the half chains that have a hop, and at most half of all: a row for each number of hops, with a start for each first
+// person and the end of the last.
+pub const INDEX: usize = HOPS / 2 * STARTS;

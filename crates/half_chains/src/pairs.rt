@@ -1,10 +1,11 @@
 // A left half has come to its middle person: it is paired with each right half that starts there.
 ghost use mathlib.Core.Path.{_≡_};
 ghost use Rattle.half_chains.specs.Pages.{part};
-ghost use Rattle.half_chains.specs.Walks.{clear, Persons, Pair, Paired, Ready, Arrived};
-use crate::extend::Found;
-use crate::extend::Walk;
+ghost use Rattle.half_chains.specs.Traces.{clear, Persons, Ready, Arrived};
+use crate::traces::Trace;
 use compact::PERSONS;
+use compact::STARTS;
+use pages::HandedOver;
 use ways::RECORD;
 
 // Whether nobody of the right half, whose cells behind the middle person begin at `from`, stands in the left half.
@@ -23,50 +24,33 @@ fn apart(halves: &[u32], marks: &[bool; PERSONS], from: usize, count: usize) -> 
     true
 }
 
-// Joins the left half with the right half of this number, if they share only the middle person.
-fn pair(
-    halves: &[u32],
-    marks: &[bool; PERSONS],
-    out: &mut [u32],
-    chain: [u32; RECORD],
-    w: Walk,
-    half: usize,
-    found: Found,
-) -> Found
-    requires { ⌜ Pair (now halves) (now marks) (now out) chain w half found ⌝ }
-    ensures { λ r. ⌜ Paired (now (halves .entry)) (now (marks .entry)) (now (out .entry)) (now (out .exit)) chain w half found r ⌝ }
-{
-    let from = half * RECORD + 2;
-    if !apart(halves, marks, from, w.rest) {
-        return found;
-    }
-    crate::records::hand_over(halves, out, chain, w, from, found)
-}
-
-// Joins the left half with each right half that starts at the person `at`: the index says where they stand.
+// Joins the left half with each right half that starts at its last person and shares nobody else with it: the index says where they
+// stand. Where no hop is left for a right half, the sequence is whole by itself, or not at all.
 pub fn arrive(
     halves: &[u32],
     index: &[usize],
     marks: &[bool; PERSONS],
     out: &mut [u32],
     chain: [u32; RECORD],
-    w: Walk,
-    at: usize,
-    found: Found,
-) -> Found
-    requires { ⌜ Ready (now halves) (now index) (now marks) (now out) chain w at found ⌝ }
-    ensures { λ r. ⌜ Arrived (now (halves .entry)) (now (index .entry)) (now (marks .entry)) (now (out .entry)) (now (out .exit)) chain w at found r ⌝ }
+    trace: Trace,
+    before: HandedOver,
+) -> HandedOver
+    requires { ⌜ Ready (now halves) (now index) (now marks) (now out) chain trace before ⌝ }
+    ensures { λ r. ⌜ Arrived (now (halves .entry)) (now (index .entry)) (now (marks .entry)) (now (out .entry)) (now (out .exit)) chain trace before r ⌝ }
 {
-    let place = w.rest * PERSONS + at;
+    if trace.rest == 0 {
+        return crate::records::end(halves, out, chain, trace, before);
+    }
+    let place = (trace.rest - 1) * STARTS + trace.last;
     let mut half = index[place];
     let end = index[place + 1];
-    let mut got = found;
-    while half < end {
-        got = pair(halves, marks, out, chain, w, half, got);
-        if got.more != 0 {
-            return got;
-        }
+    let mut got = before;
+    while half < end && got.more == 0 {
+        let from = half * RECORD + 2;
         half += 1;
+        if apart(halves, marks, from, trace.rest) {
+            got = crate::records::hand_over(halves, out, chain, trace, from, got);
+        }
     }
     got
 }

@@ -1,7 +1,7 @@
 // Handing over a chain: it is counted, its record is written, or it is the one more for which there is no room.
-ghost use Rattle.half_chains.specs.Pages.{Behind, Follows, Room, Handed};
-use crate::extend::Found;
-use crate::extend::Walk;
+ghost use Rattle.half_chains.specs.Pages.{Behind, Follows, Room, Handed, Ending, Ended};
+use crate::traces::Trace;
+use pages::HandedOver;
 use ways::RECORD;
 
 // Copies `count` persons of a half chain, from its cell `from` on, to `out`, from cell `at` on.
@@ -21,32 +21,49 @@ pub fn hand_over(
     halves: &[u32],
     out: &mut [u32],
     chain: [u32; RECORD],
-    w: Walk,
+    trace: Trace,
     from: usize,
-    found: Found,
-) -> Found
-    requires { ⌜ Room (now halves) (now out) chain w from found ⌝ }
-    ensures { λ r. ⌜ Handed (now (halves .entry)) (now (out .entry)) (now (out .exit)) chain w from found r ⌝ }
+    before: HandedOver,
+) -> HandedOver
+    requires { ⌜ Room (now halves) (now out) chain trace from before ⌝ }
+    ensures { λ r. ⌜ Handed (now (halves .entry)) (now (out .entry)) (now (out .exit)) chain trace from before r ⌝ }
 {
-    let count = found.count;
-    if count >= w.room {
-        return Found {
+    let count = before.count;
+    if count >= trace.room {
+        return HandedOver {
             count: count,
             more: 1,
         };
     }
-    if w.writes != 0 {
+    if trace.writes != 0 {
         let at = count * RECORD;
         pages::put(out, at, chain);
-        append(out, at + (w.len + 1), halves, from, w.rest);
-        out[at] = (w.len + w.rest - 1) as u32;
-        return Found {
+        append(out, at + (trace.len + 1), halves, from, trace.rest);
+        out[at] = (trace.len + trace.rest - 1) as u32;
+        return HandedOver {
             count: count + 1,
             more: 0,
         };
     }
-    Found {
+    HandedOver {
         count: count + 1,
         more: 0,
     }
+}
+
+// Hands over a sequence that no right half stands behind, if it ends at To.
+pub fn end(
+    halves: &[u32],
+    out: &mut [u32],
+    chain: [u32; RECORD],
+    trace: Trace,
+    before: HandedOver,
+) -> HandedOver
+    requires { ⌜ Ending (now halves) (now out) chain trace before ⌝ }
+    ensures { λ r. ⌜ Ended (now (out .entry)) (now (out .exit)) chain trace before r ⌝ }
+{
+    if trace.last != trace.to {
+        return before;
+    }
+    hand_over(halves, out, chain, trace, 0, before)
 }

@@ -1,13 +1,13 @@
 -- The promise of the join. Definitions only.
 use mathlib.Core.Path.{_≡_}
 use mathlib.Core.List.{List}
-use mathlib.Core.Logic.{_≢_}
-use Prim.Native.Nat.{ℕ, _≤_, _<_}
+use Prim.Native.Nat.{ℕ}
 use lib.ListN.{length}
 use Rattle.ways.specs.Halves.{halves}
 use Rattle.ways.specs.ByHops.{byHops}
-use Rattle.ways.specs.Sizes.{recordSize, mostHops}
-use Rattle.compact.specs.Compact.{persons, graphOf, Compact}
+use Rattle.ways.specs.Sizes.{recordSize}
+use Rattle.compact.specs.Compact.{graphOf}
+use Rattle.half_chains.specs.Shelf.{Seeking}
 use Rattle.question.specs.declared.Question.{Question}
 use Rattle.refusals.specs.declared.Answer as code
 use Rattle.refusals.specs.Answers.{answerSaid, answerFor, cellsFor}
@@ -20,17 +20,12 @@ pub record Joins (file : List ℕ) (q : Question) (working working′ out out′
   pub shelf : working′ ≡ cellsFor (joinFault file q working out) (halvesFor file q) working
   pub cells : out′ ≡ cellsFor (joinFault file q working out) (firstOnes (chainsFor file q) out) out
 
--- the same of a compact graph, once file and question have passed
-pub record Passed (rows targets : List ℕ) (from to hops : ℕ) : Type 0 where
-  pub graph : Compact rows targets
-  pub source : from < persons
-  pub target : to < persons
-  pub differ : from ≢ to
-  pub some : 1 ≤ hops
-  pub few : hops ≤ mostHops
+-- the same of a compact graph of n persons, once file and question have passed
+abbrev pub Passed : List ℕ → List ℕ → ℕ → ℕ → ℕ → ℕ → Type 0
+Passed rows targets n from to hops = Seeking rows targets (record { persons = n; from = from; to = to; hops = hops })
 
-abbrev pub halvesIn : List ℕ → List ℕ → ℕ → ℕ → ℕ → List (List ℕ)
-halvesIn rows targets from to hops = halves (graphOf rows targets) persons from to hops
+abbrev pub halvesIn : List ℕ → List ℕ → ℕ → ℕ → ℕ → ℕ → List (List ℕ)
+halvesIn rows targets n from to hops = halves (graphOf rows targets) n from to hops
 
 -- these half chains and these chains, where 18 is all that is left to refuse
 pub record Answered (halfChains chains : List (List ℕ)) (working working′ out out′ : List ℕ) (answer : code.Answer) : Type 0 where
@@ -38,6 +33,6 @@ pub record Answered (halfChains chains : List (List ℕ)) (working working′ ou
   pub shelf : working′ ≡ cellsFor (halvesFault recordSize (length working) halfChains) halfChains working
   pub cells : out′ ≡ cellsFor (halvesFault recordSize (length working) halfChains) (firstOnes chains out) out
 
-abbrev pub JoinsIn : List ℕ → List ℕ → ℕ → ℕ → ℕ → List ℕ → List ℕ → List ℕ → List ℕ → code.Answer → Type 0
-JoinsIn rows targets from to hops working working′ out out′ answer =
-    Answered (halvesIn rows targets from to hops) (byHops (graphOf rows targets) from to hops) working working′ out out′ answer
+abbrev pub JoinsIn : List ℕ → List ℕ → ℕ → ℕ → ℕ → ℕ → List ℕ → List ℕ → List ℕ → List ℕ → code.Answer → Type 0
+JoinsIn rows targets n from to hops working working′ out out′ answer =
+    Answered (halvesIn rows targets n from to hops) (byHops (graphOf rows targets) from to hops) working working′ out out′ answer

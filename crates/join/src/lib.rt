@@ -3,51 +3,58 @@
 // The public face of the half chains: it refuses by number, in order, and has all half chains counted before any is written to the
 // lent working cells; then the chains are gathered from them. It promises the listing by hops, shorter first, then in dictionary
 // order, and every cell that it leaves.
-ghost use Rattle.join.specs.Answers.{Joins, Passed, JoinsIn};
 use compact::LINKS;
 use compact::PERSONS;
 use compact::STARTS;
+use format::header;
 use half_chains::INDEX;
 use half_chains::chains;
 use half_chains::halves;
+use half_chains::traces::COUNT;
+use half_chains::traces::Sought;
+use half_chains::traces::WRITE;
 use question::Question;
+use question::filling;
 use refusals::Answer;
 use refusals::Fault;
-use ways::RECORD;
+ghost use mathlib.Core.Path.{_≡_};
+ghost use lib.ListN.{length};
+ghost use Rattle.refusals.specs.Faults.{sound};
+ghost use Rattle.question.specs.Asked.{askedRoomFault};
+ghost use Rattle.join.specs.Answers.{Joins, Passed, JoinsIn};
 
-// The join over the compact graph: the half chains are counted before any cell is written.
+// The join over the compact graph of a file of so many persons: the half chains are counted before any cell is written.
 fn join_graph(
     rows: &[u16; STARTS],
     targets: &[u16; LINKS],
+    persons: usize,
     from: u32,
     to: u32,
     hops: u32,
     working: &mut [u32],
     out: &mut [u32],
 ) -> Answer
-    requires { ⌜ Passed (now rows) (now targets) from to hops ⌝ }
-    ensures { λ r. ⌜ JoinsIn (now (rows .entry)) (now (targets .entry)) from to hops (now (working .entry)) (now (working .exit)) (now (out .entry)) (now (out .exit)) r ⌝ }
+    requires { ⌜ Passed (now rows) (now targets) persons from to hops ⌝ }
+    ensures { λ r. ⌜ JoinsIn (now (rows .entry)) (now (targets .entry)) persons from to hops (now (working .entry)) (now (working .exit)) (now (out .entry)) (now (out .exit)) r ⌝ }
 {
     let source = from as usize;
+    let sought = Sought {
+        persons: persons,
+        from: source,
+        to: to as usize,
+        hops: hops as usize,
+    };
     let mut marks = [false; PERSONS];
     marks[source] = true;
-    let mut only = [0u32; RECORD];
-    only[1] = to;
-    let mut ending = [0usize; STARTS];
-    halves::lone(&mut ending, to as usize);
     let mut index = [0usize; INDEX];
-    let most = hops as usize;
-    let places = (most / 2 + 1) * PERSONS;
     let counted = halves::shelve(
         rows,
         targets,
-        &only,
-        &ending,
         &mut marks,
         &mut index,
         working,
-        halves::COUNT,
-        places,
+        sought,
+        COUNT,
     );
     if counted.more != 0 {
         return Answer::Refused {
@@ -58,59 +65,46 @@ fn join_graph(
     halves::shelve(
         rows,
         targets,
-        &only,
-        &ending,
         &mut marks,
         &mut index,
         working,
-        halves::WRITE,
-        places,
+        sought,
+        WRITE,
     );
-    let found = chains::gather(
-        rows,
-        targets,
-        working,
-        &index,
-        &mut marks,
-        out,
-        source,
-        most,
-    );
+    let found = chains::gather(rows, targets, working, &index, &mut marks, out, sought);
     Answer::Listed {
         count: found.count,
         ended: found.more == 0,
     }
 }
 
-// Lists the chains by joining half chains: all half chains are written to `working`, the first chains, shorter first, to `out`.
-pub fn join(file: &[u8], question: Question, working: &mut [u32], out: &mut [u32]) -> Answer
+// The join where the file, the question and the output have passed.
+fn joined(file: &[u8], question: Question, working: &mut [u32], out: &mut [u32]) -> Answer
+    requires { ⌜ askedRoomFault (now file) question (length (now out)) ≡ sound ⌝ }
     ensures { λ r. ⌜ Joins (now (file .entry)) question (now (working .entry)) (now (working .exit)) (now (out .entry)) (now (out .exit)) r ⌝ }
 {
-    if let Fault::At(number, place) = question::asked(file, question) {
-        return Answer::Refused { number, place };
-    }
-    if out.len() < RECORD {
-        return Answer::Refused {
-            number: 16,
-            place: 0,
-        };
-    }
     let mut rows = [0u16; STARTS];
     let mut targets = [0u16; LINKS];
-    question::filling::fill(
-        file,
-        format::header::counts(file),
-        question,
-        &mut rows,
-        &mut targets,
-    );
+    filling::fill(file, question, &mut rows, &mut targets);
+    let counts = header::counts(file);
     join_graph(
         &rows,
         &targets,
+        counts.persons,
         question.from,
         question.to,
         question.hops,
         working,
         out,
     )
+}
+
+// Lists the chains by joining half chains: all half chains are written to `working`, the first chains, shorter first, to `out`.
+pub fn join(file: &[u8], question: Question, working: &mut [u32], out: &mut [u32]) -> Answer
+    ensures { λ r. ⌜ Joins (now (file .entry)) question (now (working .entry)) (now (working .exit)) (now (out .entry)) (now (out .exit)) r ⌝ }
+{
+    if let Fault::At(number, place) = question::asked_room(file, question, out.len()) {
+        return Answer::Refused { number, place };
+    }
+    joined(file, question, working, out)
 }

@@ -1,47 +1,16 @@
--- The refusals come in their order; what is left is the join over the graph.
+-- `join` meets its contract: the refusals of file, question and output come before the rest.
+use mathlib.Core.Path.{sym, ap, _∙_}
+use Rattle.refusals.specs.Faults.{faultSaid}
+use Rattle.join.proofs.Public.{join-refused}
 use borrow.Author.Needs.{needs}
-use Rattle.join.proofs.Public.{join-refused, join-short, join-counts, join-fill, join-passed, join-joins}
 use Rattle.join.proofs.join.Statement.{statement}
 use Rattle.join.proofs.join.Tie as tie
 
 returns : tie.Need-returns
-returns c =
-    let at-start = c .before .before .before .before .before .before .before in
-    join-refused (at-start .args .file .now) (at-start .args .question) (c .before .before .before .asked .ensures) (c .before .number .given .1)
+returns c = join-refused _ _ _ _ (sym (c .before .before .before .asked-room .ensures) ∙ ap faultSaid (c .before .number .given .1))
 
-returns-2 : tie.Need-returns-2
-returns-2 c =
-    let at-start = c .before .before .before .before .before .before .before in
-    join-short (at-start .args .file .now) (at-start .args .question) (c .before .before .before .asked .ensures) (c .before .enum-told .given .1) (c .if1 .taken)
-
-counts-requires : tie.Need-counts-requires
-counts-requires c κs =
-    let at-start = c .before .before .before .before .before .before .before in
-    let p = join-counts (at-start .args .file .now) (at-start .args .question) (c .before .before .before .asked .ensures) (c .before .enum-told .given .1) in (p .marks, (p .fits, p .lays))
-
-fill-requires : tie.Need-fill-requires
-fill-requires c κs =
-    let at-start = c .before .before .before .before .before .before .before .before .before .before in
-    join-fill (at-start .args .file .now) (at-start .args .question) (c .before .before .before .before .before .before .asked .ensures) (c .before .before .before .before .enum-told .given .1) (c .before .before .counts .ensures)
-
-join-graph-requires : tie.Need-join-graph-requires
-join-graph-requires c κs =
-    let at-start = c .before .before .before .before .before .before .before .before .before .before .before .before .before .before .before .before .before in
-    let at-asked = c .before .before .before .before .before .before .before .before .before .before .before .before .before .asked in
-    let at-enum-told = c .before .before .before .before .before .before .before .before .before .before .before .enum-told in
-    join-passed (at-start .args .file .now) (at-start .args .question) (at-asked .ensures) (at-enum-told .given .1) (c .before .before .before .before .before .before .fill .ensures)
-
-returns-3 : tie.Need-returns-3
-returns-3 c =
-    let at-start = c .before .before .before .before .before .before .before .before .before .before .before .before .before .before .before .before .before .before .before .before .before .before in
-    let at-asked = c .before .before .before .before .before .before .before .before .before .before .before .before .before .before .before .before .before .before .asked in
-    let at-enum-told = c .before .before .before .before .before .before .before .before .before .before .before .before .before .before .before .before .enum-told in
-    let at-fill = c .before .before .before .before .before .before .before .before .before .before .before .fill in
-    let at-if1 = c .before .before .before .before .before .before .before .before .before .before .before .before .before .before .before .if1 in
-    join-joins (at-start .args .file .now) (at-start .args .question) (at-asked .ensures) (at-enum-told .given .1) (at-fill .ensures) (at-if1 .left) (c .before .before .before .before .join-graph .ensures)
+joined-requires : tie.Need-joined-requires
+joined-requires c κs = sym (c .before .before .before .before .asked-room .ensures) ∙ ap faultSaid (c .before .before .enum-told .given .1)
 
 pub join-spec : {M : Type 1} → statement M
-join-spec =
-    tie.close
-    (tie.spec (λ c κs. search needs) (λ c. search needs) returns (λ c. search needs) returns-2 counts-requires (λ c. search needs) (λ c. search needs)
-    fill-requires join-graph-requires (λ c. search needs) (λ c. search needs) returns-3)
+join-spec = tie.close (tie.spec (λ c κs. search needs) (λ c. search needs) returns (λ c. search needs) joined-requires (λ c. search needs) (λ c. search needs) (λ c. search needs))

@@ -1,86 +1,54 @@
 -- The right halves that start here, one after the other: what was handed over, with those still to come, is all.
 use borrow.Author.Needs.{needs}
-use mathlib.Core.Path.{_∙_}
+use mathlib.Core.Logic.{inl, inr}
+use mathlib.Core.Path.{sym, _∙_}
 use native.Mathlib.Omega.{arith}
 use Prim.Native.Nat.{_-_}
-use Rattle.half_chains.proofs.Steps.{Pairing, arrive-place, arrive-start, arrive-pair, arrive-fits, arrive-turn, arrive-stop, arrive-end}
+use Rattle.half_chains.proofs.Steps.{Pairing, arrive-ending, arrive-ended, arrive-place, arrive-start, pair-fits, pair-persons, pair-room, pair-joined, pair-shared, arrive-end}
 use Rattle.half_chains.proofs.pairs.arrive.Statement.{statement}
 use Rattle.half_chains.proofs.pairs.arrive.Tie as tie
 
 abbrev Inv-loop : tie.InvT-loop
-Inv-loop halves index marks out₀ chain w at place half₀ end got₀ out half got = Pairing halves index marks out₀ chain w at end got₀ out half got
+Inv-loop halves index marks out₀ chain trace place half₀ end got₀ out half got = Pairing halves index marks out₀ chain trace end got₀ out half got
 
 abbrev μ-loop : tie.MeasureT-loop
-μ-loop halves index marks out₀ chain w at place half₀ end got₀ out half got = end - half
-
-mul-place : tie.Need-mul-place Inv-loop μ-loop
-mul-place c = omega (arith, c .before .before .before .before .pre .opens .short)
-
-add-place : tie.Need-add-place Inv-loop μ-loop
-add-place c =
-    let at-start = c .before .before .before .before in
-    omega (arith, at-start .pre .opens .short, at-start .pre .place)
-
-mul-half : tie.Need-mul-half Inv-loop μ-loop
-mul-half c =
-    let at-start = c .before .before .before .before in
-    omega (arith, arrive-place (at-start .pre), at-start .good .1 .0)
-
-shared-slice-read-half : tie.Need-shared-slice-read-half Inv-loop μ-loop
-shared-slice-read-half c = omega (arith, arrive-place (c .before .before .before .before .before .pre))
-
-add-end : tie.Need-add-end Inv-loop μ-loop
-add-end c =
-    let at-start = c .before .before .before .before .before in
-    omega (arith, at-start .pre .opens .short, at-start .pre .place)
-
-mul-end : tie.Need-mul-end Inv-loop μ-loop
-mul-end c =
-    let at-start = c .before .before .before .before .before in
-    omega (arith, arrive-place (at-start .pre), at-start .good .1 .0)
-
-shared-slice-read-end : tie.Need-shared-slice-read-end Inv-loop μ-loop
-shared-slice-read-end c = omega (arith, arrive-place (c .before .before .before .before .before .before .pre))
-
-loop-holds : tie.Need-loop-holds Inv-loop μ-loop
-loop-holds c = arrive-start (c .before .before .before .before .before .before .pre)
-
-pair-requires : tie.Need-pair-requires Inv-loop μ-loop
-pair-requires c κs = arrive-pair (c .before .before .loop .inv) (c .before .loop-test .taken)
-
-same-length : tie.Need-same-length Inv-loop μ-loop
-same-length c =
-    let at-loop = c .before .before .before .before .before .before .before .loop in
-    c .before .before .before .before .pair .kept .1 .1 .0 ∙ at-loop .inv .long
+μ-loop halves index marks out₀ chain trace place half₀ end got₀ out half got = end - half
 
 returns : tie.Need-returns Inv-loop μ-loop
-returns c =
-    let at-loop = c .before .before .before .before .before .before .before .loop in
-    let at-loop-test = c .before .before .before .before .before .before .loop-test in
-    arrive-stop (at-loop .inv) (at-loop-test .taken) (c .before .before .before .before .pair .ensures) (c .if1 .taken)
+returns c = arrive-ended (c .before .before .before .before .before .before .before .before .before .pre) (c .before .before .before .before .if1 .taken) (c .before .before .end .ensures)
+
+loop-holds : tie.Need-loop-holds Inv-loop μ-loop
+loop-holds c = arrive-start (c .before .before .before .before .before .before .before .before .before .pre) (c .before .before .before .before .if1 .left)
+
+-- a right half whose record ends in the working cells
+mul-from : tie.Need-mul-from Inv-loop μ-loop
+mul-from c = omega (arith, pair-fits (c .before .before .before .loop .inv) (c .before .before .loop-test .taken), c .before .before .before .before .before .before .before .before .before .before .before .before .before .good .0)
+
+add-from : tie.Need-add-from Inv-loop μ-loop
+add-from c = omega (arith, pair-fits (c .before .before .before .loop .inv) (c .before .before .loop-test .taken), c .before .before .before .before .before .before .before .before .before .before .before .before .before .good .0)
 
 add-half : tie.Need-add-half Inv-loop μ-loop
-add-half c =
-    let at-loop = c .before .before .before .before .before .before .before .loop in
-    let at-loop-test = c .before .before .before .before .before .before .loop-test in
-    let at-start = c .before .before .before .before .before .before .before .before .before .before .before .before .before .before in
-    omega (arith, arrive-fits (at-loop .inv) (at-loop-test .taken), at-start .good .0)
+add-half c = omega (arith, pair-fits (c .before .before .before .loop .inv) (c .before .before .loop-test .taken), c .before .before .before .before .before .before .before .before .before .before .before .before .before .good .0)
+
+hand-over-requires : tie.Need-hand-over-requires Inv-loop μ-loop
+hand-over-requires c κs = pair-room (c .before .before .before .before .before .before .loop .inv) (c .before .before .before .before .before .loop-test .taken) (c .before .before .before .if2 .taken)
 
 loop-again : tie.Need-loop-again Inv-loop μ-loop
 loop-again c =
-    let at-loop = c .before .before .before .before .before .before .before .loop in
-    let at-loop-test = c .before .before .before .before .before .before .loop-test in
-    let at-pair = c .before .before .before .before .pair in
-    arrive-turn (at-loop .inv) (at-loop-test .taken) (at-pair .ensures) (at-pair .kept .1 .1 .0) (c .if1 .left)
+    let handed = c .before .before .hand-over in
+    pair-joined (c .before .before .before .before .before .before .before .before .before .loop .inv) (c .before .before .before .before .before .before .before .before .loop-test .taken) (sym (c .before .before .before .before .if3 .taken) ∙ c .before .before .before .before .before .apart .ensures) (handed .ensures) (handed .kept .1 .0)
 
-same-length-2 : tie.Need-same-length-2 Inv-loop μ-loop
-same-length-2 c = c .before .loop .inv .long
-
-returns-2 : tie.Need-returns-2 Inv-loop μ-loop
-returns-2 c = arrive-end (c .before .loop .inv) (c .loop-test .left)
+loop-again-2 : tie.Need-loop-again-2 Inv-loop μ-loop
+loop-again-2 c = pair-shared (c .before .before .before .before .before .loop .inv) (c .before .before .before .before .loop-test .taken) (sym (c .if3 .left) ∙ c .before .apart .ensures)
 
 pub arrive-spec : {M : Type 1} → statement M
 arrive-spec =
     tie.close
-    (tie.spec Inv-loop μ-loop mul-place add-place mul-half shared-slice-read-half add-end mul-end shared-slice-read-end loop-holds pair-requires
-    same-length returns add-half (λ c. search needs) loop-again same-length-2 returns-2)
+    (tie.spec Inv-loop μ-loop (λ c κs. arrive-ending (c .before .before .before .before .before .before .pre) (c .before .if1 .taken)) (λ c. search needs) returns
+    (λ c. arrive-place (c .before .before .before .before .before .before .pre) (c .before .if1 .left) .0) (λ c. search needs) (λ c. search needs)
+    (λ c. omega (arith, arrive-place (c .before .before .before .before .before .before .before .pre) (c .before .before .if1 .left) .1, c .before .before .before .before .before .before .before .good .1 .0)) (λ c. omega (arith, arrive-place (c .before .before .before .before .before .before .before .before .pre) (c .before .before .before .if1 .left) .1))
+    (λ c. search needs) (λ c. omega (arith, arrive-place (c .before .before .before .before .before .before .before .before .pre) (c .before .before .before .if1 .left) .1, c .before .before .before .before .before .before .before .before .good .1 .0)) (λ c. arrive-place (c .before .before .before .before .before .before .before .before .before .pre) (c .before .before .before .before .if1 .left) .1)
+    loop-holds mul-from add-from add-half (λ c κs. pair-persons (c .before .before .before .loop .inv) (c .before .before .loop-test .taken)) hand-over-requires
+    (λ c. search needs) loop-again (λ c. search needs) loop-again-2
+    (λ c. c .before .before .before .loop .inv .long) (λ c. arrive-end (c .before .before .before .loop .inv) (inr (c .if2 .left)))
+    (λ c. c .before .loop .inv .long) (λ c. arrive-end (c .before .loop .inv) (inl (c .loop-test .left))))
