@@ -5,12 +5,12 @@ use Prim.Native.Nat.{ℕ}
 use native.Mathlib.Omega.{arith}
 use lib.ListN.{length, replicate}
 use Rattle.format.specs.Numbers.{number16, number32}
-use Rattle.format.specs.Format.{marked, countsFit, laidOut}
+use Rattle.format.specs.Format.{marked, fit, agree}
 use Rattle.format.specs.Kinds.{classOf}
 use Rattle.checking.specs.Verdict.{passed}
 use Rattle.refusals.specs.Faults.{firstAmong}
-use Rattle.checking.specs.Checked.{archiveRises, feedRuled, feedFault, rowStartsOrKeeps, rowEnds, rowRuled, rowFault, ownedFault, tablesFault, fileFault, checked}
-use Rattle.checking.specs.Links.{targetRises, linkRuled, linkFault}
+use Rattle.checking.specs.Checked.{archiveRises, feedRuled, feedFault, rowStartsOrKeeps, rowEnds, rowRuled, rowFault, linkFaultIn, ownedFault, tablesFault, fileFault, checked}
+use Rattle.checking.specs.Links.{linkRuled, linkFault}
 use Rattle.ways.specs.Graph.{among, keep}
 use Rattle.ways.specs.Order.{before}
 use Rattle.ways.specs.Listing.{by, ways, listing}
@@ -26,7 +26,7 @@ use Rattle.cases.specs.Cases.{AllHold, table, secondRecord}
 use Rattle.cases.specs.Passing.{Passing}
 
 pub six-passes : (length six ≡ 188) × (checked six ≡ passed 6 10 2)
-unfolding six flatMap number16 number32 marked countsFit laidOut classOf firstAmong archiveRises feedRuled feedFault rowStartsOrKeeps rowEnds rowRuled rowFault targetRises linkRuled linkFault ownedFault tablesFault fileFault checked
+unfolding six flatMap number16 number32 marked fit agree classOf firstAmong archiveRises feedRuled feedFault rowStartsOrKeeps rowEnds rowRuled rowFault linkRuled linkFault linkFaultIn ownedFault tablesFault fileFault checked
 six-passes = (refl, refl)
 
 -- one row after the other
@@ -35,7 +35,7 @@ abbrev _and_ : {A B : Type 0} → A → B → A × B
 a and b = (a, b)
 
 pub every-case-holds : AllHold six table
-unfolding six flatMap number16 number32 marked countsFit laidOut classOf firstAmong archiveRises feedRuled feedFault rowStartsOrKeeps rowEnds rowRuled rowFault targetRises linkRuled linkFault ownedFault tablesFault fileFault daysFit restFault questionFault dayAdmitted admitted numbersFrom next among keep by ways listing before after recordOf chainOf cellsOf written sameCells isRecordIn shorterFirst personsBelow extends halfChains table
+unfolding six flatMap number16 number32 marked fit agree classOf firstAmong archiveRises feedRuled feedFault rowStartsOrKeeps rowEnds rowRuled rowFault linkRuled linkFault linkFaultIn ownedFault tablesFault fileFault daysFit restFault questionFault dayAdmitted admitted numbersFrom next among keep by ways listing before after recordOf chainOf cellsOf written sameCells isRecordIn shorterFirst personsBelow extends halfChains table
 every-case-holds =
     (refl, refl)
     and (refl, refl)
@@ -53,7 +53,7 @@ every-case-holds =
 
 -- person 1, the second record for a bookmark, 50 working cells and 20 for the output
 pub six-goes-through : Passing six Q 1 secondRecord (replicate 50 0) (replicate 20 0)
-unfolding six flatMap number16 number32 marked countsFit laidOut classOf firstAmong archiveRises feedRuled feedFault rowStartsOrKeeps rowEnds rowRuled rowFault targetRises linkRuled linkFault ownedFault tablesFault fileFault daysFit restFault questionFault personFault dayAdmitted admitted numbersFrom next among keep by ways listing before after recordOf chainOf cellsOf written sameCells isRecordIn shorterFirst personsBelow extends halfChains refusalOf
+unfolding six flatMap number16 number32 marked fit agree classOf firstAmong archiveRises feedRuled feedFault rowStartsOrKeeps rowEnds rowRuled rowFault linkRuled linkFault linkFaultIn ownedFault tablesFault fileFault daysFit restFault questionFault personFault dayAdmitted admitted numbersFrom next among keep by ways listing before after recordOf chainOf cellsOf written sameCells isRecordIn shorterFirst personsBelow extends halfChains refusalOf
 six-goes-through =
     record {
       check = refl;

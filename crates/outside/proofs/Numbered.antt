@@ -40,9 +40,9 @@ ended-few true = omega arith
 ended-few false = omega arith
 
 -- by the answers
-pub fewest-refused : (file : List ℕ) (q : Question) (person : ℕ) {answer : distance-code.Answer} {number place : ℕ} → distance.FewestHops file q person answer → answer ≡ distance-code.the-variants.Refused number place → number ≤ 15
+pub fewest-refused : (file : List ℕ) (q : Question) (person : ℕ) {answer : distance-code.HopsAnswer} {number place : ℕ} → distance.FewestHops file q person answer → answer ≡ distance-code.the-variants.Refused number place → number ≤ 15
 unfolding distance.answered
-fewest-refused file q person {number = number} {place} is e = go (firstOf (fileFault file) (personFault (personCount file) q person)) (fewest (next file q) (q .to) (q .hops) person) (person-numbered file q person) (sym is ∙ ap distance.answerSaid e)
+fewest-refused file q person {number = number} {place} is e = go (firstOf (fileFault file) (personFault (personCount file) q person)) (fewest (next file q) (q .to) (q .hops) person) (person-numbered file q person) (sym is ∙ ap distance.hopsSaid e)
   where
     go : (f : Fault) (h : ℕ) → Numbered 15 f → distance.unlessRefused f h ≡ distance.refused number place → number ≤ 15
     go sound h i e = let z : _≡_ {A = ℕ} 0 1 = cc in absurd (omega arith)

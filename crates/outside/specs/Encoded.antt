@@ -30,7 +30,7 @@ verdictNumber (passed n m f) = n + m * 2 ^ 16 + f * 2 ^ 32
 verdictNumber (refused number place) = refusalNumber number place
 
 -- fewest hops: the hops, or the refusal
-abbrev pub hopsNumber : distance.Answer → ℕ
+abbrev pub hopsNumber : distance.HopsAnswer → ℕ
 hopsNumber (distance.hops h) = h
 hopsNumber (distance.refused number place) = refusalNumber number place
 

@@ -1,7 +1,7 @@
 -- `kin_fewest` meets its contract: the refusal numbers are small enough for their place in 64 bits.
 use mathlib.Core.Path.{sym, ap, _∙_}
 use native.Mathlib.Omega.{arith}
-use Rattle.distance.specs.Answers.{answerSaid}
+use Rattle.distance.specs.Answers.{hopsSaid}
 use Rattle.outside.specs.Encoded.{hopsNumber}
 use Rattle.outside.proofs.Numbered.{fewest-refused}
 use borrow.Author.Needs.{needs}
@@ -12,10 +12,10 @@ refusal-number-requires : tie.Need-refusal-number-requires
 refusal-number-requires c κs = omega (arith, fewest-refused _ _ _ (c .before .before .before .fewest .ensures) (c .before .number .given .1))
 
 returns : tie.Need-returns
-returns c = rw (← c .before .before .before .before .asking .ensures) (ap hopsNumber (sym (ap answerSaid (c .before .fewest2 .given .1)) ∙ c .before .before .before .fewest .ensures))
+returns c = rw (← c .before .before .before .before .asking .ensures) (ap hopsNumber (sym (ap hopsSaid (c .before .fewest2 .given .1)) ∙ c .before .before .before .fewest .ensures))
 
 returns-2 : tie.Need-returns-2
-returns-2 c = rw (← c .before .before .before .before .before .asking .ensures) (c .refusal-number .ensures ∙ ap hopsNumber (sym (ap answerSaid (c .before .before .number .given .1)) ∙ c .before .before .before .before .fewest .ensures))
+returns-2 c = rw (← c .before .before .before .before .before .asking .ensures) (c .refusal-number .ensures ∙ ap hopsNumber (sym (ap hopsSaid (c .before .before .number .given .1)) ∙ c .before .before .before .before .fewest .ensures))
 
 pub kin-fewest-spec : {M : Type 1} → statement M
 kin-fewest-spec =
