@@ -19,12 +19,7 @@ fn keep_last(cells: &[u32], count: usize, bookmark: &mut [u32])
     requires { ⌜ (1 ≤ count) × (count * recordSize ≤ length (now cells)) × (length (now bookmark) ≡ recordSize) ⌝ }
     ensures { λ _. ⌜ now (bookmark .exit) ≡ lastRecord count (now (cells .entry)) ⌝ }
 {
-    let first = (count - 1) * RECORD;
-    let mut i = 0;
-    while i < RECORD {
-        bookmark[i] = cells[first + i];
-        i += 1;
-    }
+    cells::copy(bookmark, 0, cells, (count - 1) * RECORD, RECORD);
 }
 
 // The next portion: its chains are counted, and where more follow, the bookmark is the last of them.

@@ -9,7 +9,7 @@ use borrow.Author.Tests.{ltb-true, ltb-false}
 use native.Mathlib.Nat.{add-zero, zero-add, suc-add}
 use native.Mathlib.Numerals.{add-one}
 use lib.ListN.{length, getD, take, drop, set, length-drop}
-use lib.Seq.{slice, slice-cons, slice-empty, drop-cons, drop-length, take-nil, length-take-le}
+use lib.Seq.{slice, slice-cons, slice-empty, drop-cons, take-nil, length-take-le}
 use Rattle.ways.specs.Chain.{hops}
 use Rattle.ways.specs.Records.{chainOf}
 use Rattle.ways.specs.Sizes.{recordSize}
@@ -29,28 +29,6 @@ take-drop (suc f) n (x ∷ l) = rw suc-add (take-drop f n l)
 hops-take : (h : ℕ) (l : List ℕ) → h < length l → hops (take (suc h) l) ≡ h
 hops-take h [] lt = absurd (omega arith)
 hops-take h (x ∷ l) lt = length-take-le h l (omega arith)
-
--- ---- some words: those from i on are still to come
-abbrev pub Putting : List ℕ → List ℕ → ℕ → List ℕ → ℕ → Type 0
-Putting words out₀ at out i = (i ≤ length words) × Printing out₀ at words out (at + i) (drop i words)
-
-pub put-starts : {words out : List ℕ} {at : ℕ} → Putting words out at out 0
-put-starts {words} {out} {at} = let e : at + 0 ≡ at = omega arith in (omega arith, rw e starts)
-
-module _ {words out₀ : List ℕ} {at : ℕ} {out : List ℕ} {i : ℕ} (k : Putting words out₀ at out i) where
-  pub put-room : at + length words ≤ length out₀ → i < length words → at + i < length out
-  put-room fits h = omega (arith, same-bytes (k .1))
-
-  pub put-turn : i < length words → Putting words out₀ at (set out (at + i) (getD words i 0)) (i + 1)
-  put-turn h =
-      let e : at + i + 1 ≡ at + (i + 1) = omega arith in
-      (omega arith, rw (← e, add-one i) (byte (rw (drop-cons words i 0) at (k .1))))
-
-  pub put-ends : length words ≤ i → Printed out₀ at words out (at + i)
-  put-ends h =
-      let e : i ≡ length words = omega (arith, k .0) in
-      let none : drop i words ≡ [] = ap (λ (n : ℕ). drop n words) e ∙ drop-length words in
-      done (rw none at (k .1))
 
 -- ---- a chain's line
 module _ {cells : List ℕ} {chain : ℕ} (r : RecordAt cells chain) where

@@ -28,12 +28,8 @@ fn put(words: &[u8], out: &mut [u8], at: usize) -> usize
     requires { ⌜ at + length (now words) ≤ length (now out) ⌝ }
     ensures { λ r. ⌜ Printed (now (out .entry)) at (now (words .entry)) (now (out .exit)) r ⌝ }
 {
-    let mut i = 0;
-    while i < words.len() {
-        out[at + i] = words[i];
-        i += 1;
-    }
-    at + i
+    cells::copy_bytes(out, at, words, 0, words.len());
+    at + words.len()
 }
 
 // The line of the chain in a record.

@@ -4,9 +4,9 @@ use mathlib.Core.Path.{refl}
 use Prim.Native.Nat.{_-_}
 use lib.Seq.{slice}
 use Rattle.ways.specs.Graph.{among}
-use Rattle.portion.proofs.Cells.{Seeking, seek-on, seek-found, seek-none}
-use Rattle.portion.proofs.bookmark.stands.Statement.{statement}
-use Rattle.portion.proofs.bookmark.stands.Tie as tie
+use Rattle.cells.proofs.Seeking.{Seeking, seek-on, seek-found, seek-none}
+use Rattle.cells.proofs.stands.Statement.{statement}
+use Rattle.cells.proofs.stands.Tie as tie
 
 abbrev Inv-loop : tie.InvT-loop
 Inv-loop cells first end person at₀ at = Seeking person cells (among person (slice first end cells)) at end
