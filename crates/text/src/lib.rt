@@ -28,7 +28,7 @@ fn put(words: &[u8], out: &mut [u8], at: usize) -> usize
     requires { ⌜ at + length (now words) ≤ length (now out) ⌝ }
     ensures { λ r. ⌜ Printed (now (out .entry)) at (now (words .entry)) (now (out .exit)) r ⌝ }
 {
-    cells::copy_bytes(out, at, words, 0, words.len());
+    cells::bytes::copy(out, at, words, 0, words.len());
     at + words.len()
 }
 
