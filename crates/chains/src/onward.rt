@@ -1,7 +1,7 @@
 // Going on by a portion: its chains in the cells, the count, and the bookmark for the next one.
 use question::Question;
 use refusals::Answer;
-use text::DIGITS;
+use text::counts::DIGITS;
 use text::counts::count_on;
 use ways::RECORD;
 ghost use mathlib.Core.Path.{_≡_};
