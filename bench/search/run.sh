@@ -7,7 +7,7 @@ here=$(cd "$(dirname "$0")" && pwd)
 root=$(cd "$here/../.." && pwd)
 copy=$root/target/bench/search
 mkdir -p "$copy/crates/bench_export/src" "$copy"/target/{rlib,stamp,log}
-for crate in ways compact pages barriers search; do
+for crate in ways compact cells pages barriers search; do
     rm -rf "$copy/crates/$crate"
     cp -r "$root/crates/$crate" "$copy/crates/$crate"
     [ -f "$root/target/stamp/$crate" ] || continue
@@ -19,7 +19,8 @@ done
 cat >"$copy/crates.txt" <<'END'
 ways:
 compact: ways
-pages: ways
+cells: ways
+pages: ways cells
 barriers: ways compact
 search: ways compact pages barriers
 bench_export: search barriers pages compact ways

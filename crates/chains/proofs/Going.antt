@@ -26,10 +26,10 @@ use Rattle.listing.proofs.Telling.{listed-first, listed-fits, listed-count, lis
 use Rattle.text.specs.Decimal.{worth, Digits}
 use Rattle.text.specs.Lines.{chainLines, chainsAt, endLine, refusalLine, Records}
 use Rattle.text.proofs.Lining.{lines-append}
+use Rattle.text.proofs.Written.{chains-written, records-written}
 use Rattle.chains.specs.Program.{textFor}
 use Rattle.chains.specs.Onward.{rest, OnTheWay, WentOn}
 use Rattle.chains.proofs.Bounded.{count-fits}
-use Rattle.chains.proofs.Lined.{chains-written, records-written}
 
 differ : {number place count : ℕ} {ended : Bool} → refused number place ≡ listed count ended → ⊥
 differ e = let z : _≡_ {A = ℕ} 0 1 = cc in omega arith

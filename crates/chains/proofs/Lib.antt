@@ -1,8 +1,6 @@
 -- Laws of this room: counts fit their digits, lines fit their page, and a portion leaves what is still to come.
 pub mod Bounded
-pub mod Lined
 pub mod Going
-pub mod Kept
 pub mod Heard
 pub mod Ahead
 pub mod Putting

@@ -8,15 +8,13 @@ use borrow.Author.Tests.{ltb-true, ltb-false}
 use lib.Dec.{ltb}
 use lib.ListN.{length, take, length-append}
 use lib.Seq.{length-take-le}
-use native.Mathlib.Nat.{add-zero, zero-add, suc-add}
-use Rattle.ways.specs.Chain.{hops}
 use Rattle.listing.specs.Portions.{bookmarked}
-use Rattle.text.specs.Decimal.{decimal, worth}
-use Rattle.text.specs.Lines.{spaced, chainAt, chainLine, chainLines, chainsAt, endLine, refusalLine}
-use Rattle.text.specs.Printed.{Printed, Paged, longestLine}
-use Rattle.text.specs.declared.Page as text
+use Rattle.text.specs.Decimal.{worth}
+use Rattle.text.specs.Lines.{chainLines, chainsAt, endLine, refusalLine}
+use Rattle.text.specs.Printed.{Printed, LinesReach, longestLine}
+use Rattle.text.specs.declared.Reached as text
 use Rattle.text.proofs.Printing.{printed-length, printed-take}
-use Rattle.text.proofs.Lining.{lines-append, paged-moves}
+use Rattle.text.proofs.Lining.{end-some, refusal-some, lines-some, chains-split, lines-append, reach-moves}
 use Rattle.chains.specs.Program.{printed}
 use Rattle.chains.specs.Pages.{behindPortion, GoesOn, leftText, Lined, Ready, NextPage, toPrint, Begins, Run, done, next, laid}
 use Rattle.chains.specs.Inside.{Printable, LookedAhead, PutPage, leftBehind}
@@ -24,31 +22,6 @@ use Rattle.chains.specs.declared.pages.Left as code
 use Rattle.chains.specs.declared.pages.Progress.{Progress}
 use Rattle.chains.specs.declared.pages.Put.{Put}
 use Rattle.chains.specs.declared.pages.Page.{Page}
-
--- ---- no line is empty
-end-some : (n : ℕ) → 1 ≤ length (endLine n)
-unfolding endLine
-end-some n = omega arith
-
-refusal-some : (number place : ℕ) → 1 ≤ length (refusalLine number place)
-unfolding refusalLine
-refusal-some number place = omega arith
-
-lines-some : (cells : List ℕ) (first n : ℕ) → 1 ≤ n → 1 ≤ length (chainLines (chainsAt cells first n))
-unfolding chainsAt chainLines chainLine
-lines-some cells first zero h = absurd (omega arith)
-lines-some cells first (suc n) h =
-    let c = chainAt cells first in
-    let line = length-append (decimal (hops c)) (58 ∷ (spaced c ++ 10 ∷ [])) in
-    omega (arith, line, length-append (chainLine c) (chainLines (chainsAt cells (suc first) n)))
-
--- ---- so many chains in two parts
-chains-split : (cells : List ℕ) (first m n : ℕ) → chainsAt cells first (m + n) ≡ chainsAt cells first m ++ chainsAt cells (first + m) n
-unfolding chainsAt
-chains-split cells first zero n = rw (zero-add, add-zero)
-chains-split cells first (suc m) n =
-    let e : first + suc m ≡ suc first + m = omega arith in
-    rw (suc-add, e) (ap (_∷_ (chainAt cells first)) (chains-split cells (suc first) m n))
 
 -- ---- a page that is the whole text of what is left
 put-all : {counted cells : List ℕ} {left : code.Left} {text out out′ : List ℕ} {bytes : ℕ} → ((input bookmark : List ℕ) → leftText input bookmark counted cells left ≡ text) → 1 ≤ length text → Printed out 0 text out′ bytes → bytes ≤ length out → PutPage counted cells left out′ (record { bytes = bytes; left = code.the-variants.Nothing })
@@ -100,11 +73,11 @@ module _ {counted cells : List ℕ} {left : code.Left} {next count : ℕ} {ended
       last input bookmark false some = absurd (omega (arith, some refl))
 
   -- the lines of chains
-  pub put-lines : {out out′ : List ℕ} {page : text.Page} {left′ : code.Left} → next < count → longestLine ≤ length out → Paged cells next count out out′ page → left′ ≡ leftBehind (page .next) count ended → PutPage counted cells left out′ (record { bytes = page .bytes; left = left′ })
+  pub put-lines : {out out′ : List ℕ} {page : text.Reached} {left′ : code.Left} → next < count → longestLine ≤ length out → LinesReach cells next count out out′ page → left′ ≡ leftBehind (page .next) count ended → PutPage counted cells left out′ (record { bytes = page .bytes; left = left′ })
   put-lines {out} {out′} {page} {left′} h room p l = record {
     within = omega (arith, printed-length (p .lines), p .within);
     text = λ input bookmark. ap (leftText input bookmark counted cells) is ∙ parts (behindPortion input bookmark (worth counted) ended) ∙ sym (ap (λ (t : List ℕ). take (page .bytes) out′ ++ t) (ap (leftText input bookmark counted cells) l ∙ behind-text input bookmark (p .to)));
-    empty = λ e. absurd (omega (arith, p .lines .place, lines-some cells next (page .next - next) (omega (arith, paged-moves p h room))));
+    empty = λ e. absurd (omega (arith, p .lines .place, lines-some cells next (page .next - next) (omega (arith, reach-moves p h room))));
     ready = λ input bookmark r. rw l (behind-ready input bookmark (p .to) (rw is at r));
   }
     where

@@ -1,7 +1,7 @@
 // Going on by a portion: its chains in the cells, the count, and the bookmark for the next one.
 use question::Question;
 use refusals::Answer;
-use text::DIGITS;
+use text::counts::DIGITS;
 use text::counts::count_on;
 use ways::RECORD;
 ghost use mathlib.Core.Path.{_≡_};
@@ -19,12 +19,7 @@ fn keep_last(cells: &[u32], count: usize, bookmark: &mut [u32])
     requires { ⌜ (1 ≤ count) × (count * recordSize ≤ length (now cells)) × (length (now bookmark) ≡ recordSize) ⌝ }
     ensures { λ _. ⌜ now (bookmark .exit) ≡ lastRecord count (now (cells .entry)) ⌝ }
 {
-    let first = (count - 1) * RECORD;
-    let mut i = 0;
-    while i < RECORD {
-        bookmark[i] = cells[first + i];
-        i += 1;
-    }
+    cells::copy(bookmark, 0, cells, (count - 1) * RECORD, RECORD);
 }
 
 // The next portion: its chains are counted, and where more follow, the bookmark is the last of them.

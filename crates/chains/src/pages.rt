@@ -8,7 +8,7 @@ use crate::reading::Input;
 use crate::reading::QUESTION;
 use crate::reading::heard;
 use refusals::Answer;
-use text::DIGITS;
+use text::counts::DIGITS;
 use ways::RECORD;
 ghost use mathlib.Core.Path.{_≡_};
 ghost use Prim.Native.Nat.{_≤_};

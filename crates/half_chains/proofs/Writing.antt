@@ -3,26 +3,17 @@ use mathlib.Core.Path.{_≡_, sym, ap, _∙_}
 use mathlib.Core.List.{List, _++_}
 use Prim.Native.Nat.{ℕ, zero, suc, _+_, _-_, _*_, _≤_, _<_}
 use lib.ListN.{length, take, drop, getD, set, length-drop}
-use lib.Seq.{paste, paste-zero, paste-suc, length-paste, length-take-le, take-take, getD-drop}
+use lib.Seq.{paste, paste-zero, paste-suc, length-paste, length-take-le, take-take}
 use native.Mathlib.Omega.{arith}
 use native.Mathlib.Nat.{add-zero, add-assoc, le-refl}
 use borrow.Author.Tests.{eq-eqb, ne-eqb, lt-ltb, le-ltb}
 use Rattle.ways.specs.Sizes.{recordSize}
 use Rattle.pages.specs.Pages.{recordWith}
 use Rattle.pages.specs.declared.HandedOver.{HandedOver}
-use Rattle.pages.proofs.Copying.{Copying, copy-turn, paste-set}
+use Rattle.pages.proofs.Copying.{paste-set}
 use Rattle.pages.proofs.Recording.{recordWith-paste}
-use Rattle.half_chains.specs.Pages.{part, Behind, Room, Handed, Ending, Ended}
+use Rattle.half_chains.specs.Pages.{part, Room, Handed, Ending, Ended}
 use Rattle.half_chains.specs.declared.traces.Trace.{Trace}
-
--- ---- `append`
-
-module _ {out₀ : List ℕ} {at : ℕ} {halves : List ℕ} {from n : ℕ} (b : Behind out₀ at halves from n) where
-  pub append-long : n ≤ length (drop from halves)
-  append-long = rw length-drop (omega (arith, b .there))
-
-  pub append-turn : {out : List ℕ} {i : ℕ} → Copying out₀ at (drop from halves) n out i → i < n → Copying out₀ at (drop from halves) n (set out (at + i) (getD halves (from + i) 0)) (i + 1)
-  append-turn {i = i} p lt = rw (getD-drop from halves i 0) at (copy-turn append-long (b .fits) p lt)
 
 -- ---- a record is put together where it lies
 
@@ -70,10 +61,11 @@ module _ {halves out chain : List ℕ} {w : Trace} {from : ℕ} {before : Handed
   pub hand-fits : before .count < w .room → before .count * recordSize + recordSize ≤ length out
   hand-fits h = omega (arith, k .room)
 
-  pub hand-behind : {out′ : List ℕ} → before .count < w .room → out′ ≡ paste out (before .count * recordSize) chain recordSize → Behind out′ (before .count * recordSize + (w .len + 1)) halves from (w .rest)
+  -- the rest fits behind the chain's cells
+  pub hand-behind : {out′ : List ℕ} → before .count < w .room → out′ ≡ paste out (before .count * recordSize) chain recordSize → (before .count * recordSize + (w .len + 1) + w .rest ≤ length out′) × (from + w .rest ≤ length halves)
   hand-behind {out′} h e =
       let long : length out′ ≡ length out = ap length e ∙ length-paste out (before .count * recordSize) chain recordSize (hand-fits h) (omega (arith, k .long)) in
-      record { fits = omega (arith, long, hand-fits h, k .short); there = k .there }
+      (omega (arith, long, hand-fits h, k .short), k .there)
 
   -- written
   pub hand-put : {out′ out″ : List ℕ} → before .count < w .room → (w .writes ≡ 0 → ⊥) → out′ ≡ paste out (before .count * recordSize) chain recordSize

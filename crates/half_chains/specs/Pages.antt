@@ -5,7 +5,6 @@ use mathlib.Core.List.{List, []}
 use Prim.Native.Nat.{ℕ, _+_, _*_, _≤_, _<_}
 use lib.ListN.{length, take, drop}
 use lib.Dec.{eqb}
-use lib.Seq.{paste}
 use Rattle.ways.specs.Sizes.{recordSize}
 use Rattle.pages.specs.Pages.{Page, emit, recordWith}
 use Rattle.pages.specs.declared.HandedOver.{HandedOver}
@@ -18,14 +17,6 @@ page done cells = record { count = done .count; more = done .more; cells = cells
 -- so many cells from one on
 abbrev pub part : List ℕ → ℕ → ℕ → List ℕ
 part cells from count = take count (drop from cells)
-
--- there are cells to copy, and cells to copy them to
-pub record Behind (out : List ℕ) (at : ℕ) (halves : List ℕ) (from count : ℕ) : Type 0 where
-  pub fits : at + count ≤ length out
-  pub there : from + count ≤ length halves
-
-abbrev pub Follows : List ℕ → List ℕ → ℕ → List ℕ → ℕ → ℕ → Type 0
-Follows out out′ at halves from count = out′ ≡ paste out at (drop from halves) count
 
 -- there are cells for the records, and in a record for the hops; and nothing is noted yet
 pub record Room (halves out chain : List ℕ) (w : Trace) (from : ℕ) (before : HandedOver) : Type 0 where

@@ -1,20 +1,8 @@
 // Handing over a chain: it is counted, its record is written, or it is the one more for which there is no room.
-ghost use Rattle.half_chains.specs.Pages.{Behind, Follows, Room, Handed, Ending, Ended};
+ghost use Rattle.half_chains.specs.Pages.{Room, Handed, Ending, Ended};
 use crate::traces::Trace;
 use pages::HandedOver;
 use ways::RECORD;
-
-// Copies `count` persons of a half chain, from its cell `from` on, to `out`, from cell `at` on.
-fn append(out: &mut [u32], at: usize, halves: &[u32], from: usize, count: usize)
-    requires { ⌜ Behind (now out) at (now halves) from count ⌝ }
-    ensures { λ _. ⌜ Follows (now (out .entry)) (now (out .exit)) at (now (halves .entry)) from count ⌝ }
-{
-    let mut i = 0;
-    while i < count {
-        out[at + i] = halves[from + i];
-        i += 1;
-    }
-}
 
 // Hands over the chain so far with the rest of a right half behind it, whose cells begin at `from`.
 pub fn hand_over(
@@ -38,7 +26,7 @@ pub fn hand_over(
     if trace.writes != 0 {
         let at = count * RECORD;
         pages::put(out, at, chain);
-        append(out, at + (trace.len + 1), halves, from, trace.rest);
+        cells::copy(out, at + (trace.len + 1), halves, from, trace.rest);
         out[at] = (trace.len + trace.rest - 1) as u32;
         return HandedOver {
             count: count + 1,

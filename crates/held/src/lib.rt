@@ -53,11 +53,7 @@ pub fn record_at(cells: &[u32], at: usize) -> [u32; RECORD]
     ensures { λ r. ⌜ r ≡ take recordSize (drop at (now (cells .entry))) ⌝ }
 {
     let mut record = [0; RECORD];
-    let mut i = 0;
-    while i < RECORD {
-        record[i] = cells[at + i];
-        i += 1;
-    }
+    cells::copy(&mut record, 0, cells, at, RECORD);
     record
 }
 

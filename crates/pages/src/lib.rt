@@ -21,9 +21,5 @@ pub fn put(out: &mut [u32], at: usize, chain: [u32; RECORD])
     requires { ⌜ at + recordSize ≤ length (now out) ⌝ }
     ensures { λ _. ⌜ now (out .exit) ≡ paste (now (out .entry)) at chain recordSize ⌝ }
 {
-    let mut i = 0;
-    while i < RECORD {
-        out[at + i] = chain[i];
-        i += 1;
-    }
+    cells::copy(out, at, &chain, 0, RECORD);
 }

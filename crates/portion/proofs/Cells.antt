@@ -12,25 +12,6 @@ use borrow.Author.Tests.{eq-eqb, ne-eqb}
 use Rattle.ways.specs.Graph.{Graph, among}
 use Rattle.portion.specs.Bookmark.{runs, zeros}
 
--- a person is sought in the cells from `at` up to `end`
-pub record Seeking (person : ℕ) (cells : List ℕ) (whole : Bool) (at end : ℕ) : Type 0 where
-  pub bound : at ≤ end
-  pub fits : end ≤ length cells
-  pub rest : whole ≡ among person (slice at end cells)
-
-module _ {person : ℕ} {cells : List ℕ} {whole : Bool} {at end : ℕ} (s : Seeking person cells whole at end) where
-  pub seek-on : at < end → (getD cells at 0 ≡ person → ⊥) → Seeking person cells whole (at + 1) end
-  unfolding among
-  seek-on h n = record { bound = omega arith; fits = s .fits; rest = s .rest ∙ rw (slice-cons at end cells 0 h (s .fits), ne-eqb person (getD cells at 0) (λ e. n (sym e)), add-one at) }
-
-  pub seek-found : at < end → getD cells at 0 ≡ person → true ≡ whole
-  unfolding among
-  seek-found h e = sym (s .rest ∙ rw (slice-cons at end cells 0 h (s .fits), eq-eqb person (getD cells at 0) (sym e)))
-
-  pub seek-none : end ≤ at → false ≡ whole
-  unfolding among
-  seek-none h = let e : at ≡ end = omega arith in sym (s .rest ∙ rw (e, slice-empty end cells))
-
 -- the persons run on from `at` to `last`
 module _ (g : Graph) (t : ℕ) (cells : List ℕ) (last : ℕ) (fits : last < length cells) where
   pub run-on : (at : ℕ) → at < last

@@ -33,21 +33,6 @@ fn leads(starts: &[u16; STARTS], targets: &[u16; LINKS], person: u32, next: u32)
     false
 }
 
-// Whether a person stands in the cells from `first` up to but without `end`.
-fn stands(cells: &[u32], first: usize, end: usize, person: u32) -> bool
-    requires { ⌜ (first ≤ end) × (end ≤ length (now cells)) ⌝ }
-    ensures { λ r. ⌜ r ≡ among person (slice first end (now (cells .entry))) ⌝ }
-{
-    let mut at = first;
-    while at < end {
-        if cells[at] == person {
-            return true;
-        }
-        at += 1;
-    }
-    false
-}
-
 // Whether the cells from 1 up to `last` run from person to person by links, nobody twice, to the end person.
 fn run(starts: &[u16; STARTS], targets: &[u16; LINKS], cells: &[u32], last: usize, to: u32) -> bool
     requires { ⌜ (Compact (now starts) (now targets)) × (1 ≤ last) × (last < length (now cells)) ⌝ }
@@ -59,7 +44,7 @@ fn run(starts: &[u16; STARTS], targets: &[u16; LINKS], cells: &[u32], last: usiz
         if !leads(starts, targets, person, cells[at + 1]) {
             return false;
         }
-        if stands(cells, at + 1, last + 1, person) {
+        if cells::stands(cells, at + 1, last + 1, person) {
             return false;
         }
         at += 1;

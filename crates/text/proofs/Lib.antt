@@ -1,5 +1,6 @@
--- Laws of this room: digits, counting on, lines, and what is left behind them.
+-- Laws of this room: digits, counting on, lines, and records that were written.
 pub mod Printing
 pub mod Spelling
 pub mod Counting
 pub mod Lining
+pub mod Written

@@ -8,15 +8,15 @@ use lib.Dec.{ltb}
 use borrow.Author.Tests.{ltb-true, ltb-false}
 use native.Mathlib.Nat.{add-zero, zero-add, suc-add}
 use native.Mathlib.Numerals.{add-one}
-use lib.ListN.{length, getD, take, drop, set, length-drop}
-use lib.Seq.{slice, slice-cons, slice-empty, drop-cons, drop-length, take-nil, length-take-le}
+use lib.ListN.{length, getD, take, drop, set, length-drop, length-append}
+use lib.Seq.{slice, slice-cons, slice-empty, drop-cons, take-nil, length-take-le}
 use Rattle.ways.specs.Chain.{hops}
 use Rattle.ways.specs.Records.{chainOf}
 use Rattle.ways.specs.Sizes.{recordSize}
-use Rattle.text.specs.declared.Page.{Page}
+use Rattle.text.specs.declared.Reached.{Reached}
 use Rattle.text.specs.Decimal.{decimal}
 use Rattle.text.specs.Lines.{spaced, chainLine, chainLines, endLine, refusalLine, chainAt, chainsAt, RecordAt}
-use Rattle.text.specs.Printed.{Printed, Paged, longestLine}
+use Rattle.text.specs.Printed.{Printed, LinesReach, longestLine}
 use Rattle.text.proofs.Printing.{Printing, starts, byte, part, done, same-bytes, behind, two-bytes, nothing, printed-length}
 use Rattle.text.proofs.Spelling.{decimal-one, number-length}
 
@@ -29,28 +29,6 @@ take-drop (suc f) n (x ∷ l) = rw suc-add (take-drop f n l)
 hops-take : (h : ℕ) (l : List ℕ) → h < length l → hops (take (suc h) l) ≡ h
 hops-take h [] lt = absurd (omega arith)
 hops-take h (x ∷ l) lt = length-take-le h l (omega arith)
-
--- ---- some words: those from i on are still to come
-abbrev pub Putting : List ℕ → List ℕ → ℕ → List ℕ → ℕ → Type 0
-Putting words out₀ at out i = (i ≤ length words) × Printing out₀ at words out (at + i) (drop i words)
-
-pub put-starts : {words out : List ℕ} {at : ℕ} → Putting words out at out 0
-put-starts {words} {out} {at} = let e : at + 0 ≡ at = omega arith in (omega arith, rw e starts)
-
-module _ {words out₀ : List ℕ} {at : ℕ} {out : List ℕ} {i : ℕ} (k : Putting words out₀ at out i) where
-  pub put-room : at + length words ≤ length out₀ → i < length words → at + i < length out
-  put-room fits h = omega (arith, same-bytes (k .1))
-
-  pub put-turn : i < length words → Putting words out₀ at (set out (at + i) (getD words i 0)) (i + 1)
-  put-turn h =
-      let e : at + i + 1 ≡ at + (i + 1) = omega arith in
-      (omega arith, rw (← e, add-one i) (byte (rw (drop-cons words i 0) at (k .1))))
-
-  pub put-ends : length words ≤ i → Printed out₀ at words out (at + i)
-  put-ends h =
-      let e : i ≡ length words = omega (arith, k .0) in
-      let none : drop i words ≡ [] = ap (λ (n : ℕ). drop n words) e ∙ drop-length words in
-      done (rw none at (k .1))
 
 -- ---- a chain's line
 module _ {cells : List ℕ} {chain : ℕ} (r : RecordAt cells chain) where
@@ -117,12 +95,17 @@ pub line-done : {cells : List ℕ} {chain : ℕ} {out : List ℕ} {at a : ℕ} {
 line-done r ea k h = (rw (line-text r, ← ea) (behind two-bytes (lining-ends k h)), omega (arith, k .room))
 
 -- ---- many lines
-chains-one : (cells : List ℕ) (first n : ℕ) → chainsAt cells first (suc n) ≡ chainsAt cells first n ++ chainAt cells (first + n) ∷ []
+-- so many chains in two parts
+pub chains-split : (cells : List ℕ) (first m n : ℕ) → chainsAt cells first (m + n) ≡ chainsAt cells first m ++ chainsAt cells (first + m) n
 unfolding chainsAt
-chains-one cells first zero = rw add-zero
-chains-one cells first (suc n) =
-    let e : suc first + n ≡ first + suc n = omega arith in
-    ap (λ (L : List (List ℕ)). chainAt cells first ∷ L) (chains-one cells (suc first) n ∙ ap (λ (m : ℕ). chainsAt cells (suc first) n ++ chainAt cells m ∷ []) e)
+chains-split cells first zero n = rw (zero-add, add-zero)
+chains-split cells first (suc m) n =
+    let e : first + suc m ≡ suc first + m = omega arith in
+    rw (suc-add, e) (ap (_∷_ (chainAt cells first)) (chains-split cells (suc first) m n))
+
+chains-one : (cells : List ℕ) (first n : ℕ) → chainsAt cells first (n + 1) ≡ chainsAt cells first n ++ chainAt cells (first + n) ∷ []
+unfolding chainsAt
+chains-one cells first n = chains-split cells first n 1
 
 pub lines-append : (L M : List (List ℕ)) → chainLines (L ++ M) ≡ chainLines L ++ chainLines M
 unfolding chainLines
@@ -133,55 +116,55 @@ lines-one : (L : List (List ℕ)) (c : List ℕ) → chainLines (L ++ c ∷ []) 
 unfolding chainLines
 lines-one L c = lines-append L (c ∷ []) ∙ ap (λ (t : List ℕ). chainLines L ++ t) (append-nil (chainLine c))
 
-pub record Paging (cells : List ℕ) (first count : ℕ) (out₀ out : List ℕ) (next bytes : ℕ) : Type 0 where
+pub record Reaching (cells : List ℕ) (first count : ℕ) (out₀ out : List ℕ) (next bytes : ℕ) : Type 0 where
   pub from : first ≤ next
   pub to : next ≤ count
   pub within : bytes ≤ length out₀
   pub lines : Printed out₀ 0 (chainLines (chainsAt cells first (next - first))) out bytes
 
-pub paging-starts : {cells : List ℕ} {first count : ℕ} {out : List ℕ} → first ≤ count → Paging cells first count out out first 0
+pub reach-starts : {cells : List ℕ} {first count : ℕ} {out : List ℕ} → first ≤ count → Reaching cells first count out out first 0
 unfolding chainsAt chainLines
-paging-starts {cells} {first} h =
+reach-starts {cells} {first} h =
     let e : first - first ≡ 0 = omega arith in
     record { from = omega arith; to = h; within = omega arith; lines = rw e nothing }
 
-module _ {cells : List ℕ} {first count : ℕ} {out₀ out : List ℕ} {next bytes : ℕ} (k : Paging cells first count out₀ out next bytes) where
-  pub paging-bytes : length out ≡ length out₀
-  paging-bytes = printed-length (k .lines)
+module _ {cells : List ℕ} {first count : ℕ} {out₀ out : List ℕ} {next bytes : ℕ} (k : Reaching cells first count out₀ out next bytes) where
+  pub reach-bytes : length out ≡ length out₀
+  reach-bytes = printed-length (k .lines)
 
-  pub paging-turn : {out′ : List ℕ} {bytes′ : ℕ} → next < count → bytes + longestLine ≤ length out → Printed out bytes (chainLine (chainAt cells next)) out′ bytes′ → bytes′ ≤ bytes + longestLine → Paging cells first count out₀ out′ (next + 1) bytes′
-  paging-turn h room p far =
+  pub reach-turn : {out′ : List ℕ} {bytes′ : ℕ} → next < count → bytes + longestLine ≤ length out → Printed out bytes (chainLine (chainAt cells next)) out′ bytes′ → bytes′ ≤ bytes + longestLine → Reaching cells first count out₀ out′ (next + 1) bytes′
+  reach-turn h room p far =
       let n = next - first in
-      let more : next + 1 - first ≡ suc n = omega (arith, k .from) in
+      let more : next + 1 - first ≡ n + 1 = omega (arith, k .from) in
       let at : first + n ≡ next = omega (arith, k .from) in
       record {
         from = omega (arith, k .from);
         to = omega arith;
-        within = omega (arith, paging-bytes);
+        within = omega (arith, reach-bytes);
         lines = rw (more, chains-one cells first n, lines-one (chainsAt cells first n) (chainAt cells (first + n)), at) (behind (k .lines) p);
       }
 
-  pub paging-full : length out < bytes + longestLine → Paged cells first count out₀ out (record { next = next; bytes = bytes })
-  paging-full h = record { from = k .from; to = k .to; within = k .within; full = λ l. omega (arith, paging-bytes); lines = k .lines }
+  pub reach-full : length out < bytes + longestLine → LinesReach cells first count out₀ out (record { next = next; bytes = bytes })
+  reach-full h = record { from = k .from; to = k .to; within = k .within; full = λ l. omega (arith, reach-bytes); lines = k .lines }
 
-  pub paging-all : count ≤ next → Paged cells first count out₀ out (record { next = next; bytes = bytes })
-  paging-all h = record { from = k .from; to = k .to; within = k .within; full = λ l. absurd (omega arith); lines = k .lines }
+  pub reach-all : count ≤ next → LinesReach cells first count out₀ out (record { next = next; bytes = bytes })
+  reach-all h = record { from = k .from; to = k .to; within = k .within; full = λ l. absurd (omega arith); lines = k .lines }
 
--- with room for a line, a page has one
-pub paged-moves : {cells : List ℕ} {first count : ℕ} {out out′ : List ℕ} {page : Page} → Paged cells first count out out′ page → first < count → longestLine ≤ length out → first < page .next
+-- with room for a line, there is one
+pub reach-moves : {cells : List ℕ} {first count : ℕ} {out out′ : List ℕ} {reached : Reached} → LinesReach cells first count out out′ reached → first < count → longestLine ≤ length out → first < reached .next
 unfolding chainsAt chainLines
-paged-moves {cells} {first} {count} {out} {out′} {page} k h room = go (ltb first (page .next)) refl
+reach-moves {cells} {first} {count} {out} {out′} {reached} k h room = go (ltb first (reached .next)) refl
   where
-    stuck : page .next ≤ first → ⊥
+    stuck : reached .next ≤ first → ⊥
     stuck le =
-        let none : page .next - first ≡ 0 = omega arith in
-        let empty : page .bytes ≡ 0 = omega (arith, rw none at (k .lines .place)) in
+        let none : reached .next - first ≡ 0 = omega arith in
+        let empty : reached .bytes ≡ 0 = omega (arith, rw none at (k .lines .place)) in
         let full = k .full (omega arith) in
         omega arith
 
-    go : (t : Bool) → ltb first (page .next) ≡ t → first < page .next
-    go true e = ltb-true first (page .next) e
-    go false e = absurd (stuck (ltb-false first (page .next) e))
+    go : (t : Bool) → ltb first (reached .next) ≡ t → first < reached .next
+    go true e = ltb-true first (reached .next) e
+    go false e = absurd (stuck (ltb-false first (reached .next) e))
 
 -- ---- the last line, and a refusal's
 pub end-done : (n : ℕ) {out one two : List ℕ} {at last : ℕ} → Printed out 0 (101 ∷ 110 ∷ 100 ∷ 32 ∷ []) one at → Printed one at (decimal n) two last → Printed out 0 (endLine n) (set two last 10) (last + 1)
@@ -192,3 +175,20 @@ pub refusal-done : (number place : ℕ) {out one two three four : List ℕ} {a b
     → Printed two b (32 ∷ 97 ∷ 116 ∷ 32 ∷ []) three d → Printed three d (decimal place) four e → Printed out 0 (refusalLine number place) (set four e 10) (e + 1)
 unfolding refusalLine
 refusal-done number place p q r s = done (byte (part (part (part (part starts p) q) r) s))
+
+-- ---- no line is empty
+pub end-some : (n : ℕ) → 1 ≤ length (endLine n)
+unfolding endLine
+end-some n = omega arith
+
+pub refusal-some : (number place : ℕ) → 1 ≤ length (refusalLine number place)
+unfolding refusalLine
+refusal-some number place = omega arith
+
+pub lines-some : (cells : List ℕ) (first n : ℕ) → 1 ≤ n → 1 ≤ length (chainLines (chainsAt cells first n))
+unfolding chainsAt chainLines chainLine
+lines-some cells first zero h = absurd (omega arith)
+lines-some cells first (suc n) h =
+    let c = chainAt cells first in
+    let line = length-append (decimal (hops c)) (58 ∷ (spaced c ++ 10 ∷ [])) in
+    omega (arith, line, length-append (chainLine c) (chainLines (chainsAt cells (suc first) n)))

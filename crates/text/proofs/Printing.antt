@@ -6,7 +6,7 @@ use native.Mathlib.Omega.{arith}
 use native.Mathlib.Nat.{add-zero}
 use native.Mathlib.Numerals.{add-one}
 use lib.ListN.{length, take, drop, set, length-append}
-use lib.Seq.{sets, length-sets, sets-eq, take-at, length-take-le}
+use lib.Seq.{sets, length-sets, sets-eq, paste, take-length, take-at, length-take-le}
 use Rattle.text.specs.Printed.{Printed}
 
 -- a run of stores in two parts
@@ -39,6 +39,13 @@ module _ {out₀ : List ℕ} {at : ℕ} {text out : List ℕ} {next : ℕ} where
   -- the bytes are as many as they were
   pub same-bytes : {rest : List ℕ} → Printing out₀ at text out next rest → length out ≡ length out₀
   same-bytes {rest} p = sym (length-sets out next rest) ∙ ap length (p .right) ∙ length-sets out₀ at text
+
+-- words that were copied
+pub copied : {out : List ℕ} {at : ℕ} {words out′ : List ℕ} → at + length words ≤ length out → out′ ≡ paste out at words (length words) → Printed out at words out′ (at + length words)
+copied {out} {at} {words} fits e = record {
+  bytes = e ∙ ap (λ (w : List ℕ). take at out ++ w ++ drop (at + length words) out) (take-length words) ∙ sym (sets-eq words out at fits);
+  place = refl;
+}
 
 pub printed-length : {out : List ℕ} {at : ℕ} {text out′ : List ℕ} {next : ℕ} → Printed out at text out′ next → length out′ ≡ length out
 printed-length {out} {at} {text} p = ap length (p .bytes) ∙ length-sets out at text

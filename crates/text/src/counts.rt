@@ -3,14 +3,16 @@ ghost use mathlib.Core.Path.{_≡_};
 ghost use mathlib.Core.Logic.{_⊎_};
 ghost use Prim.Native.Nat.{_+_, _≤_, _<_, _^_};
 ghost use lib.ListN.{length, getD, drop};
-ghost use Rattle.text.specs.Decimal.{decimal, worth, Digits};
+ghost use Rattle.text.specs.Decimal.{decimal, worth, digitCount, Digits};
 ghost use Rattle.text.specs.Printed.{Printed};
-use crate::DIGITS;
 use crate::numbers::digit;
+
+// The digits of a count.
+pub const DIGITS: usize = 40;
 
 // Counts so many more, digit by digit from the last one on.
 pub fn count_on(counted: &mut [u8; DIGITS], more: usize)
-    requires { ⌜ (Digits (now counted)) × (worth (now counted) + more < 10 ^ 40) ⌝ }
+    requires { ⌜ (Digits (now counted)) × (worth (now counted) + more < 10 ^ digitCount) ⌝ }
     ensures { λ _. ⌜ (Digits (now (counted .exit))) × (worth (now (counted .exit)) ≡ worth (now (counted .entry)) + more) ⌝ }
 {
     let mut carry = more;
@@ -26,7 +28,7 @@ pub fn count_on(counted: &mut [u8; DIGITS], more: usize)
 // The place of the first digit that is no zero, or of the last digit.
 fn first_digit(counted: &[u8; DIGITS]) -> usize
     requires { ⌜ Digits (now counted) ⌝ }
-    ensures { λ r. ⌜ (r < 40) × (worth (drop (r + 1) (now (counted .entry))) ≡ 0) × ((r ≡ 0) ⊎ (0 < getD (now (counted .entry)) r 0)) ⌝ }
+    ensures { λ r. ⌜ (r < digitCount) × (worth (drop (r + 1) (now (counted .entry))) ≡ 0) × ((r ≡ 0) ⊎ (0 < getD (now (counted .entry)) r 0)) ⌝ }
 {
     let mut i = DIGITS - 1;
     while 0 < i {
@@ -40,8 +42,8 @@ fn first_digit(counted: &[u8; DIGITS]) -> usize
 
 // The count as decimal text.
 pub fn count(counted: &[u8; DIGITS], out: &mut [u8], at: usize) -> usize
-    requires { ⌜ (Digits (now counted)) × (at + 40 ≤ length (now out)) ⌝ }
-    ensures { λ r. ⌜ (Printed (now (out .entry)) at (decimal (worth (now (counted .entry)))) (now (out .exit)) r) × (r ≤ at + 40) ⌝ }
+    requires { ⌜ (Digits (now counted)) × (at + digitCount ≤ length (now out)) ⌝ }
+    ensures { λ r. ⌜ (Printed (now (out .entry)) at (decimal (worth (now (counted .entry)))) (now (out .exit)) r) × (r ≤ at + digitCount) ⌝ }
 {
     let mut i = first_digit(counted) + 1;
     let mut next = at;

@@ -6,19 +6,20 @@
 pub mod counts;
 pub mod numbers;
 
+use counts::DIGITS;
+use ways::HOPS;
 use ways::RECORD;
 ghost use Prim.Native.Nat.{_+_, _≤_, _<_};
 ghost use lib.ListN.{length};
 ghost use Rattle.text.specs.Decimal.{worth, Digits};
 ghost use Rattle.text.specs.Lines.{RecordAt, Records, chainAt, chainLine, endLine, refusalLine};
-ghost use Rattle.text.specs.Printed.{Printed, Paged, longestLine};
+ghost use Rattle.text.specs.Printed.{Printed, LinesReach, longestLine};
 
-pub const DIGITS: usize = 40;
+// The most bytes of a chain's line: a digit, a colon, nine persons of ten digits with a space in front, LF.
+const LONGEST_LINE: usize = 2 + (HOPS + 1) * 11 + 1;
 
-pub const LONGEST_LINE: usize = 102;
-
-// How far a page goes: the first record that isn't on it, and its bytes.
-pub struct Page {
+// How far the lines reach: the first record that has none yet, and the bytes up to there.
+pub struct Reached {
     pub next: usize,
     pub bytes: usize,
 }
@@ -28,12 +29,8 @@ fn put(words: &[u8], out: &mut [u8], at: usize) -> usize
     requires { ⌜ at + length (now words) ≤ length (now out) ⌝ }
     ensures { λ r. ⌜ Printed (now (out .entry)) at (now (words .entry)) (now (out .exit)) r ⌝ }
 {
-    let mut i = 0;
-    while i < words.len() {
-        out[at + i] = words[i];
-        i += 1;
-    }
-    at + i
+    cells::bytes::copy(out, at, words, 0, words.len());
+    at + words.len()
 }
 
 // The line of the chain in a record.
@@ -58,20 +55,20 @@ pub fn line(cells: &[u32], chain: usize, out: &mut [u8], at: usize) -> usize
 }
 
 // The lines of the chains from the record `first` on, as many as there is room for.
-pub fn lines(cells: &[u32], first: usize, count: usize, out: &mut [u8]) -> Page
+pub fn lines(cells: &[u32], first: usize, count: usize, out: &mut [u8]) -> Reached
     requires { ⌜ (Records (now cells) count) × (first ≤ count) ⌝ }
-    ensures { λ r. ⌜ Paged (now (cells .entry)) first count (now (out .entry)) (now (out .exit)) r ⌝ }
+    ensures { λ r. ⌜ LinesReach (now (cells .entry)) first count (now (out .entry)) (now (out .exit)) r ⌝ }
 {
     let mut next = first;
     let mut bytes = 0;
     while next < count {
         if out.len() - bytes < LONGEST_LINE {
-            return Page { next, bytes };
+            return Reached { next, bytes };
         }
         bytes = line(cells, next, out, bytes);
         next += 1;
     }
-    Page { next, bytes }
+    Reached { next, bytes }
 }
 
 // The last line of a listing.

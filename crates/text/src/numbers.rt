@@ -9,7 +9,7 @@ pub fn digit(value: u32) -> u8
     requires { ⌜ value < 10 ⌝ }
     ensures { λ r. ⌜ r ≡ 48 + value ⌝ }
 {
-    48 + value as u8
+    b'0' + value as u8
 }
 
 // A number of any length: what stands before the last digit, then the last digit.

@@ -6,7 +6,7 @@ use native.Mathlib.Omega.{arith}
 use Rattle.ways.specs.Graph.{among}
 use Rattle.compact.specs.Compact.{graphOf}
 use Rattle.compact.proofs.Rows.{row-none}
-use Rattle.portion.proofs.Cells.{Seeking, seek-on, seek-found, seek-none}
+use Rattle.cells.proofs.Seeking.{Seeking, seek-on, seek-found, seek-none}
 use Rattle.portion.proofs.bookmark.leads.Statement.{statement}
 use Rattle.portion.proofs.bookmark.leads.Tie as tie
 

@@ -1,9 +1,9 @@
--- `copy_bytes` copies the bytes one by one.
+-- `copy` copies the bytes one by one.
 use borrow.Author.Needs.{needs}
 use Prim.Native.Nat.{_-_}
 use Rattle.cells.proofs.Copying.{Copying, copy-none, copy-length, copy-writes, copy-turn, copy-end}
-use Rattle.cells.proofs.copy_bytes.Statement.{statement}
-use Rattle.cells.proofs.copy_bytes.Tie as tie
+use Rattle.cells.proofs.bytes.copy.Statement.{statement}
+use Rattle.cells.proofs.bytes.copy.Tie as tie
 
 abbrev Inv-loop : tie.InvT-loop
 Inv-loop out₀ at from first count i₀ out i = Copying out₀ at from first count out i
@@ -26,8 +26,8 @@ same-length c = copy-length (c .before .loop .inv)
 returns : tie.Need-returns Inv-loop μ-loop
 returns c = copy-end (c .before .loop .inv) (c .loop-test .left)
 
-pub copy-bytes-spec : {M : Type 1} → statement M
-copy-bytes-spec =
+pub copy-spec : {M : Type 1} → statement M
+copy-spec =
     tie.close
     (tie.spec Inv-loop μ-loop loop-holds (λ c. search needs) (λ c. search needs) (λ c. search needs) slice-write-out (λ c. search needs) (λ c. search needs)
     loop-again same-length returns)
