@@ -1,9 +1,9 @@
 -- What the inner functions ask of their callers. Definitions only.
 use mathlib.Core.Path.{_≡_}
 use mathlib.Core.List.{List}
-use Prim.Native.Nat.{ℕ, _+_, _≤_, _<_}
+use Prim.Native.Nat.{ℕ, _+_}
 use Rattle.refusals.specs.Faults.{sound, firstAmong}
-use Rattle.format.specs.Format.{personCount, row}
+use Rattle.format.specs.Format.{personCount}
 use Rattle.format.specs.Laid.{Laid}
 use Rattle.format.specs.declared.layout.Counts.{Counts}
 use Rattle.checking.specs.Checked.{rowFault}
@@ -12,11 +12,3 @@ use Rattle.checking.specs.Checked.{rowFault}
 pub record Rowed (file : List ℕ) (counts : Counts) : Type 0 where
   pub laid : Laid file counts
   pub rows : firstAmong (rowFault file) 0 (personCount file + 1) ≡ sound
-
--- one link of an owner's row, which begins at the link `first`
-pub record Owned (file : List ℕ) (counts : Counts) (owner first link : ℕ) : Type 0 where
-  pub laid : Laid file counts
-  pub owns : owner < counts .persons
-  pub begins : first ≡ row file owner
-  pub from : first ≤ link
-  pub below : link < counts .links

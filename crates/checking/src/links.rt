@@ -13,8 +13,8 @@ ghost use Rattle.ways.specs.Sizes.{mostLinks};
 ghost use Rattle.refusals.specs.Faults.{faultSaid, firstAmong};
 ghost use Rattle.format.specs.Format.{personCount};
 ghost use Rattle.checking.specs.Links.{rises, linkRuled, linkFault};
-ghost use Rattle.checking.specs.Checked.{beforeIn, linkFaultIn, ownedFault};
-ghost use Rattle.checking.specs.Inside.{Owned, Rowed};
+ghost use Rattle.checking.specs.Checked.{ownedFault};
+ghost use Rattle.checking.specs.Inside.{Rowed};
 
 // The link before it that counts, if there is one: the first of a row has nothing to rise above.
 pub enum Before {
@@ -63,27 +63,6 @@ pub fn link_fault(counts: Counts, owner: usize, before: Before, link: Link, numb
     Fault::Sound
 }
 
-// The link before a link of an owner's row, which begins at the link `first`.
-fn earlier(file: &[u8], counts: Counts, owner: usize, first: usize, number: usize) -> Before
-    requires { ⌜ Owned (now file) counts owner first number ⌝ }
-    ensures { λ r. ⌜ r ≡ beforeIn (now (file .entry)) owner number ⌝ }
-{
-    if number == first {
-        return Before::Nothing;
-    }
-    Before::Counted(links::link_in(file, counts, number - 1))
-}
-
-// One link of a file.
-fn fault_in(file: &[u8], counts: Counts, owner: usize, first: usize, number: usize) -> Fault
-    requires { ⌜ Owned (now file) counts owner first number ⌝ }
-    ensures { λ r. ⌜ faultSaid r ≡ linkFaultIn (now (file .entry)) owner number ⌝ }
-{
-    let before = earlier(file, counts, owner, first, number);
-    let link = links::link_in(file, counts, number);
-    link_fault(counts, owner, before, link, number)
-}
-
 // The first fault of the link table. Both loops are left at the first fault.
 pub fn links_fault(file: &[u8], counts: Counts) -> Fault
     requires { ⌜ Rowed (now file) counts ⌝ }
@@ -93,14 +72,16 @@ pub fn links_fault(file: &[u8], counts: Counts) -> Fault
     let mut found = Fault::Sound;
     let mut owner = 0;
     'persons: while owner < persons {
-        let first = rows::entry(file, counts, owner);
         let end = rows::entry(file, counts, owner + 1);
-        let mut number = first;
+        let mut number = rows::entry(file, counts, owner);
+        let mut before = Before::Nothing;
         while number < end {
-            found = fault_in(file, counts, owner, first, number);
+            let link = links::link_in(file, counts, number);
+            found = link_fault(counts, owner, before, link, number);
             if let Fault::At(_, _) = found {
                 break 'persons;
             }
+            before = Before::Counted(link);
             number += 1;
         }
         owner += 1;

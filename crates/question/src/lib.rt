@@ -1,8 +1,9 @@
 // The question: what is asked of a file.
 //
-// Seven numbers, whoever sends them. This room refuses a bad question with its number and place, says which links it admits,
-// and turns bytes into the compact graph that every later room sees: once a file and a question have passed, listing and
-// searching read `next` and no byte.
+// Seven numbers, whoever sends them. This room stands in front of every operation that answers a question: it refuses a bad file, a bad
+// question, a person who is not in the file and an output without room for a record, each with its number and place; it says which links
+// a question admits, and turns bytes into the compact graph that every later room sees: once a file and a question have passed, listing
+// and searching read `next` and no byte.
 mod admission;
 mod faults;
 pub mod filling;

@@ -1,9 +1,8 @@
 -- `class_of` meets its contract: each arm of the match is an arm of `classOf`.
 use mathlib.Core.Path.{_≡_}
 use native.Mathlib.Omega.{arith}
-use borrow.Author.Tests.{le-leb, lt-leb}
 use Rattle.format.specs.Kinds.{classOf}
-use Rattle.format.proofs.Classes.{class-low, above-five, class-above}
+use Rattle.format.proofs.Classes.{class-low, above-five, class-papers, class-between, class-beyond}
 use Rattle.format.proofs.kinds.class_of.Statement.{statement}
 use Rattle.format.proofs.kinds.class_of.Tie as tie
 
@@ -16,9 +15,7 @@ unfolding classOf
 returns-2 c = rw (c .match .keys3)
 
 returns-3 : tie.Need-returns-3
-returns-3 c =
-    let at-start = c .before .before .before .before .before in
-    rw (class-above (at-start .args .kind) (omega arith), le-leb 16 (at-start .args .kind) (c .before .if3 .left), le-leb (at-start .args .kind) 31 (omega arith))
+returns-3 c = class-papers (c .before .before .before .before .before .args .kind) (c .before .if3 .left) (omega arith)
 
 returns-4 : tie.Need-returns-4
 unfolding classOf
@@ -26,14 +23,11 @@ returns-4 c = let none : c .before .before .args .kind ≡ 0 = omega arith in rw
 
 returns-5 : tie.Need-returns-5
 returns-5 c =
-    let at-start = c .before .before .before .before in
     let at-match = c .before .before .before .match in
-    rw (class-above (at-start .args .kind) (above-five (c .before .if2 .left) (at-match .rest .0 .1) (at-match .rest .0 .0 .1) (at-match .rest .1)), lt-leb 16 (at-start .args .kind) (c .if3 .taken))
+    class-between (c .before .before .before .before .args .kind) (above-five (c .before .if2 .left) (at-match .rest .0 .1) (at-match .rest .0 .0 .1) (at-match .rest .1)) (c .if3 .taken)
 
 returns-6 : tie.Need-returns-6
-returns-6 c =
-    let at-start = c .before .before .before .before .before in
-    rw (class-above (at-start .args .kind) (omega arith), le-leb 16 (at-start .args .kind) (c .before .if3 .left), lt-leb (at-start .args .kind) 31 (omega arith))
+returns-6 c = class-beyond (c .before .before .before .before .before .args .kind) (omega arith)
 
 returns-7 : tie.Need-returns-7
 unfolding classOf
