@@ -8,22 +8,20 @@ use lib.Dec.{lit<}
 use lib.ListN.{length}
 use Rattle.refusals.specs.Faults.{sound}
 use Rattle.format.specs.Format.{personCount}
-use Rattle.checking.proofs.Passed.{sound-rules}
-use Rattle.ways.specs.Sizes.{mostHops}
+use Rattle.ways.specs.Sizes.{mostHops, mostPersons}
 use Rattle.ways.proofs.Many.{rising-few, listing-many}
 use Rattle.question.specs.declared.Question.{Question}
 use Rattle.question.specs.Asked.{askedFault}
 use Rattle.question.specs.Admission.{next}
+use Rattle.question.proofs.Answerable.{asked-answerable}
 use Rattle.question.proofs.Leads.{next-below, next-rising}
 use Rattle.portion.specs.Listing.{listingFor}
-use Rattle.portion.proofs.Starting.{asked-file, asked-proper, asked-few}
 
 -- forty digits are enough for the number of chains
 pub count-fits : (file : List ℕ) (q : Question) → askedFault file q ≡ sound → length (listingFor file q) < 10 ^ 40
 count-fits file q e =
-    let passed = sound-rules file (asked-file file q e) in
-    let people : personCount file ≤ 1024 = asked-few file q e in
-    let few : (p : ℕ) → length (next file q p) ≤ 1024 = λ p. omega (arith, rising-few (personCount file) 0 (next file q p) (next-rising passed q p) (λ y m. (omega arith, next-below passed q p m)) (omega arith)) in
-    let all = listing-many (next file q) 1024 (omega arith) few (q .from) (q .to) (q .hops) in
-    let most : 1024 ^ q .hops ≤ 1024 ^ mostHops = pow-le-pow-right (omega arith) (asked-proper file q e .most) in
+    let a = asked-answerable file q e in
+    let few : (p : ℕ) → length (next file q p) ≤ mostPersons = λ p. omega (arith, a .few, rising-few (personCount file) 0 (next file q p) (next-rising (a .rules) q p) (λ y m. (omega arith, next-below (a .rules) q p m)) (omega (arith, a .few))) in
+    let all = listing-many (next file q) mostPersons (omega arith) few (q .from) (q .to) (q .hops) in
+    let most : mostPersons ^ q .hops ≤ mostPersons ^ mostHops = pow-le-pow-right (omega arith) (a .proper .most) in
     lt-of-le-of-lt (le-trans all most) (lit< tt)

@@ -10,7 +10,7 @@ use lib.ListN.{length, take, drop, length-drop}
 use native.Mathlib.Nat.{zero-add, suc-add}
 use lib.Seq.{getD-take, take-nil, take-all, length-take-le}
 use Rattle.format.specs.Numbers.{number16, number32}
-use Rattle.format.specs.Format.{marked, countsFit, laidOut}
+use Rattle.format.specs.Format.{marked, fit, countsFit, laidOut}
 use Rattle.refusals.specs.Faults.{fault, unless}
 use Rattle.checking.specs.Checked.{tablesFault, fileFault}
 use Rattle.format.proofs.Counted.{counts-fit, laid-out-long}
@@ -50,7 +50,7 @@ unfolding number32
 number32-take n l at h = rw (number16-take n l at (omega arith), number16-take n l (at + 2) (omega arith))
 
 refusal-take : (n : ℕ) (file : List ℕ) → 32 ≤ n → n ≤ length file → longRefusal (take n file) ≡ longRefusal file
-unfolding marked countsFit
+unfolding marked fit
 refusal-take n file h l =
     let long : 32 ≤ length file = omega arith in
     rw (

@@ -66,8 +66,8 @@ row-ends file view person v why = v .bytes ∙ go (fileFault (now file)) why
     go sound (inl n) = absurd (n refl)
     go sound (inr h) = rw (le-ltb person (personCount (now file)) h)
 
-fewest-ends : (file : List ℕ) (q : Question) (person : ℕ) (answer : hops.Answer) → distance.FewestHops file q person answer
-    → Ends distance.refused (firstOf (fileFault file) (personFault (personCount file) q person)) 15 (distance.answerSaid answer)
+fewest-ends : (file : List ℕ) (q : Question) (person : ℕ) (answer : hops.HopsAnswer) → distance.FewestHops file q person answer
+    → Ends distance.refused (firstOf (fileFault file) (personFault (personCount file) q person)) 15 (distance.hopsSaid answer)
 unfolding distance.answered
 fewest-ends file q person answer is =
     ends-by distance.refused (λ f. distance.unlessRefused f (fewest (next file q) (q .to) (q .hops) person)) (λ number place. refl)

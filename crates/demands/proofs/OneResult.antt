@@ -40,7 +40,7 @@ verdict-told : (v : verdict.Verdict) → (answer : verdict-code.Verdict) × (ver
 verdict-told (verdict.passed n m f) = (verdict-code.the-variants.Passed n m f, refl)
 verdict-told (verdict.refused number place) = (verdict-code.the-variants.Refused number place, refl)
 
-hops-told : (a : distance.Answer) → (answer : distance-code.Answer) × (distance.answerSaid answer ≡ a)
+hops-told : (a : distance.HopsAnswer) → (answer : distance-code.HopsAnswer) × (distance.hopsSaid answer ≡ a)
 hops-told (distance.hops h) = (distance-code.the-variants.Hops h, refl)
 hops-told (distance.refused number place) = (distance-code.the-variants.Refused number place, refl)
 

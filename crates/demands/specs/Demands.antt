@@ -49,8 +49,8 @@ pub record EveryEnds : Type 0 where
   pub check : (file : List ℕ) (answer : Verdict) → Checks file answer → Ends verdict.refused (fileFault file) 9 (verdictSaid answer)
   -- "For a refused file, or a person out of range, the part is empty and no number comes with it"
   pub row : (file view : RefT (List ℕ)) (person : ℕ) → Views file person view → (fileFault (now file) ≢ sound) ⊎ (personCount (now file) ≤ person) → now view ≡ []
-  pub fewest : (file : List ℕ) (q : Question) (person : ℕ) (answer : hops.Answer) → distance.FewestHops file q person answer
-      → Ends distance.refused (firstOf (fileFault file) (personFault (personCount file) q person)) 15 (distance.answerSaid answer)
+  pub fewest : (file : List ℕ) (q : Question) (person : ℕ) (answer : hops.HopsAnswer) → distance.FewestHops file q person answer
+      → Ends distance.refused (firstOf (fileFault file) (personFault (personCount file) q person)) 15 (distance.hopsSaid answer)
   pub portion : (file : List ℕ) (q : Question) {start : Start} {out out′ : List ℕ} {answer : Answer} → Portioned file q start out out′ answer
       → Ends refused (portionFault file q start out) 17 (answerSaid answer)
   pub held : {file : List ℕ} {held held′ : Held} {out out′ : List ℕ} {answer : Answer} → MovedOn file held held′ out out′ answer
@@ -147,4 +147,4 @@ pub record DemandThree (file : List ℕ) (q : Question) : Type 0 where
 
 -- Beside the demands, of every file and question: the number that is answered for a person is the fewest hops by the customer's sentence
 pub record FewestAsSaid : Type 0 where
-  pub fewest : (file : List ℕ) (q : Question) (person d : ℕ) (answer : hops.Answer) → distance.FewestHops file q person answer → distance.answerSaid answer ≡ distance.hops d → FewestFrom file q person d
+  pub fewest : (file : List ℕ) (q : Question) (person d : ℕ) (answer : hops.HopsAnswer) → distance.FewestHops file q person answer → distance.hopsSaid answer ≡ distance.hops d → FewestFrom file q person d

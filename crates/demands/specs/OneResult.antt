@@ -34,7 +34,7 @@ pub record OneResult : Type 0 where
   -- row view: the part of the file, where it lies and what it holds
   pub row : (file : RefT (List ℕ)) (person : ℕ) → JustOne (Viewed file person)
   -- fewest hops: the answer
-  pub fewest : (file : List ℕ) (q : Question) (person : ℕ) → JustOne {R = distance.Answer} (FewestHops file q person)
+  pub fewest : (file : List ℕ) (q : Question) (person : ℕ) → JustOne {R = distance.HopsAnswer} (FewestHops file q person)
   -- portion: the answer and the output
   pub portion : (file : List ℕ) (q : Question) (start : Start) (out : List ℕ) → JustOne {R = Answer × List ℕ} (λ r. Portioned file q start out (r .1) (r .0))
   -- held listing: the answer, the held listing and the output
