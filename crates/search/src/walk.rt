@@ -56,7 +56,7 @@ pub fn enter(
     let len = stand.len + 1;
     chain[len] = v;
     marks[at] = true;
-    // The question is written anew: handed on as it is, it takes 16 bytes more of the stack for each hop.
+    // `ask` is written anew: handed on as it came, it takes 16 bytes more of the stack for each hop.
     let got = go_through(
         at,
         rows,
