@@ -21,7 +21,7 @@ use Rattle.pages.specs.Pages.{Page, emits, recordWith}
 use Rattle.pages.proofs.Handing.{emits-append, emits-more, emits-none}
 use Rattle.barriers.specs.Barriers.{Barred}
 use Rattle.barriers.specs.Settling.{Settling, Settled}
-use Rattle.barriers.proofs.Holding.{barred-none, barred-trans, hold-push}
+use Rattle.barriers.proofs.Holding.{barred-none, barred-trans, barred-settling, hold-push}
 use Rattle.search.specs.HandingOver.{page, Room, Handed}
 use Rattle.search.specs.Bookmarks.{restOf, onward, Tight, Beside}
 use Rattle.search.specs.Entering.{seenOf, Ready, following, handed, next, noted, GoneThrough, Entered, Barren}
@@ -162,15 +162,7 @@ module _ {rows targets bookmark : List ℕ} {marks : List Bool} {chain out barri
             sym (onward-loose s _ _ (f .loose)) ∙ map-eq-nil-iff _ .0 none
 
         pub enter-settling : Settling barriers₁ trail₁ v (w .left - 1) (found .trail) (r .trail)
-        enter-settling = record {
-          place = k .place;
-          wide = on-barred .hold .long;
-          old = on-barred .hold .low v;
-          new = omega (arith, k .short);
-          rise = on-barred .trailed .rise;
-          fits = on-barred .trailed .fits;
-          entries = on-barred .trailed .entries;
-        }
+        enter-settling = barred-settling (k .place) (omega (arith, k .short)) on-barred
 
         pub enter-left : {barriers₂ trail₂ : List ℕ} {barren : Bool} {n : ℕ} → Beside bookmark w v s → (s ≡ 2 → ⊥) → (barren ≡ true → Barren s found r) → Settled barriers₁ barriers₂ trail₁ trail₂ v (w .left - 1) barren (found .trail) (r .trail) n
             → Entered rows targets bookmark marks (set marks′ v false) chain (set chain′ (w .len + 1) 0) out out′ barriers barriers₂ trail trail₂ w v found (record { count = r .count; more = r .more; trail = n })

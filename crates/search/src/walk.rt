@@ -56,6 +56,7 @@ pub fn enter(
     let len = stand.len + 1;
     chain[len] = v;
     marks[at] = true;
+    // `ask` is written anew: handed on as it came, it takes 16 bytes more of the stack for each hop.
     let got = go_through(
         at,
         rows,
@@ -66,7 +67,10 @@ pub fn enter(
         trail,
         bookmark,
         out,
-        ask,
+        Ask {
+            to: ask.to,
+            room: ask.room,
+        },
         Stand {
             len: len,
             left: left,
