@@ -5,7 +5,6 @@
 // order, and every cell that it leaves.
 ghost use Rattle.join.specs.Answers.{Joins, Passed, JoinsIn};
 use compact::LINKS;
-use compact::PERSONS;
 use compact::STARTS;
 use half_chains::INDEX;
 use half_chains::chains;
@@ -32,41 +31,22 @@ fn join_graph(
     requires { ⌜ Passed (now rows) (now targets) persons from to hops ⌝ }
     ensures { λ r. ⌜ JoinsIn (now (rows .entry)) (now (targets .entry)) persons from to hops (now (working .entry)) (now (working .exit)) (now (out .entry)) (now (out .exit)) r ⌝ }
 {
-    let source = from as usize;
     let sought = Sought {
         persons: persons,
-        from: source,
+        from: from as usize,
         to: to as usize,
         hops: hops as usize,
     };
-    let mut marks = [false; PERSONS];
-    marks[source] = true;
     let mut index = [0usize; INDEX];
-    let counted = halves::shelve(
-        rows,
-        targets,
-        &mut marks,
-        &mut index,
-        working,
-        sought,
-        COUNT,
-    );
+    let counted = halves::shelve(rows, targets, &mut index, working, sought, COUNT);
     if counted.more != 0 {
         return Answer::Refused {
             number: 18,
             place: 0,
         };
     }
-    halves::shelve(
-        rows,
-        targets,
-        &mut marks,
-        &mut index,
-        working,
-        sought,
-        WRITE,
-    );
-    let found = chains::gather(rows, targets, working, &index, &mut marks, out, sought);
+    halves::shelve(rows, targets, &mut index, working, sought, WRITE);
+    let found = chains::gather(rows, targets, working, &index, out, sought);
     Answer::Listed {
         count: found.count,
         ended: found.more == 0,
