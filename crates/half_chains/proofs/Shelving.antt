@@ -4,7 +4,7 @@ use mathlib.Core.Bool.{Bool, true, false}
 use mathlib.Core.List.{List, [], _∷_, _++_, map, flatMap, map-append, append-nil, append-assoc}
 use mathlib.Core.Logic.{_≢_, ⊎-elim}
 use Prim.Native.Nat.{ℕ, zero, suc, _+_, _*_, _/_, _≤_, _<_}
-use lib.ListN.{length, getD, set, length-set, length-map, length-append}
+use lib.ListN.{length, getD, set, replicate, length-set, length-map, length-append, length-replicate}
 use lib.Seq.{getD-set-same, getD-set-other}
 use lib.Dec.{eqb}
 use native.Mathlib.Omega.{arith}
@@ -25,7 +25,7 @@ use Rattle.pages.specs.declared.HandedOver.{HandedOver}
 use Rattle.pages.proofs.Handing.{emits-append, emits-more, emits-counted}
 use Rattle.half_chains.specs.Pages.{page}
 use Rattle.half_chains.specs.Traces.{endingAt, placeOf, Going, Extended}
-use Rattle.half_chains.specs.Shelf.{nothing, Begin, Begun, halvesFrom, halvesBelow, First, Firsts, halvesOf, shelfOf, Shelve, Shelved, fromOne, waysOf, Gather, Gathered}
+use Rattle.half_chains.specs.Shelf.{nothing, Begin, Begun, halvesFrom, halvesBelow, First, Firsts, halvesOf, shelfOf, fromMarked, Shelve, Shelved, fromOne, waysOf, Gather, Gathered}
 use Rattle.half_chains.specs.declared.traces.Sought.{Sought}
 use Rattle.half_chains.specs.declared.traces.Trace.{Trace}
 use Rattle.half_chains.proofs.Turns.{Over, over-all, turn-next, turn-end}
@@ -169,7 +169,8 @@ abbrev pub shelved : Sought → ℕ → ℕ → ℕ → Trace
 shelved sought writes room hops = record { to = sought .to; writes = writes; room = room; rest = 0; len = 1; left = hops; last = sought .to }
 
 pub record Shelving (rows targets : List ℕ) (marks₀ : List Bool) (index₀ working₀ : List ℕ) (sought : Sought) (writes room : ℕ) (before : HandedOver) (marks : List Bool) (index working : List ℕ) (got : HandedOver) (hops : ℕ) : Type 0 where
-  pub shelve : Shelve rows targets marks₀ index₀ working₀ sought writes
+  pub shelve : Shelve rows targets index₀ working₀ sought writes
+  pub people : length marks₀ ≡ persons
   pub rooms : room * recordSize ≤ length working₀
   pub same : marks ≡ marks₀
   pub wide : length index ≡ length index₀
@@ -179,13 +180,16 @@ pub record Shelving (rows targets : List ℕ) (marks₀ : List Bool) (index₀ w
   pub notes : got .more ≡ 0 → (j p : ℕ) → j < hops → p ≤ sought .persons → getD index (placeOf (suc j) p) 0 ≡ before .count + length (fromOne (halvesOf (graphOf rows targets) (sought .persons) (sought .to) marks₀) j ++ halvesBelow (graphOf rows targets) (sought .to) marks₀ (suc j) p)
   pub others : (j p : ℕ) → sought .persons < p → p ≤ persons → getD index (placeOf (suc j) p) 0 ≡ getD index₀ (placeOf (suc j) p) 0
 
-module _ {rows targets : List ℕ} {marks : List Bool} {index working : List ℕ} {sought : Sought} {writes : ℕ} where
+from-wide : (from : ℕ) → length (fromMarked from) ≡ persons
+from-wide from = length-set (replicate persons false) from true ∙ length-replicate persons false
+
+module _ {rows targets index working : List ℕ} {sought : Sought} {writes : ℕ} where
   -- (To) alone
-  module _ (k : Shelve rows targets marks index working sought writes) where
-    pub shelve-begin : Begin rows targets marks working (shelved sought writes (length working / recordSize) 0) nothing
+  module _ (k : Shelve rows targets index working sought writes) where
+    pub shelve-begin : Begin rows targets (fromMarked (sought .from)) working (shelved sought writes (length working / recordSize) 0) nothing
     shelve-begin = record {
       graph = k .seeking .graph;
-      wide = k .wide;
+      wide = from-wide (sought .from);
       room = omega arith;
       whole = refl;
       first = refl;
@@ -194,11 +198,12 @@ module _ {rows targets : List ℕ} {marks : List Bool} {index working : List ℕ
       none = refl;
     }
 
-    pub shelve-start : {marks′ : List Bool} {working′ : List ℕ} {got : HandedOver} → Begun rows targets marks marks′ working working′ (shelved sought writes (length working / recordSize) 0) nothing got → length working′ ≡ length working
+    pub shelve-start : {marks′ : List Bool} {working′ : List ℕ} {got : HandedOver} → Begun rows targets (fromMarked (sought .from)) marks′ working working′ (shelved sought writes (length working / recordSize) 0) nothing got → length working′ ≡ length working
         → Shelving rows targets marks′ index working′ sought writes (length working / recordSize) got marks′ index working′ got 0
     unfolding fromOne emits
     shelve-start b long = record {
-      shelve = record { seeking = k .seeking; wide = ap length (b .same) ∙ k .wide; within = k .within };
+      shelve = record { seeking = k .seeking; within = k .within };
+      people = ap length (b .same) ∙ from-wide (sought .from);
       rooms = omega (arith, long);
       same = refl;
       wide = refl;
@@ -209,13 +214,13 @@ module _ {rows targets : List ℕ} {marks : List Bool} {index working : List ℕ
       others = λ j p h l. refl;
     }
 
-  module _ {room : ℕ} {before : HandedOver} {marks′ : List Bool} {index′ working′ : List ℕ} {got : HandedOver} {hops : ℕ} (inv : Shelving rows targets marks index working sought writes room before marks′ index′ working′ got hops) where
+  module _ {marks : List Bool} {room : ℕ} {before : HandedOver} {marks′ : List Bool} {index′ working′ : List ℕ} {got : HandedOver} {hops : ℕ} (inv : Shelving rows targets marks index working sought writes room before marks′ index′ working′ got hops) where
     pub shelve-first : hops < sought .hops / 2 → eqb (got .more) 0 ≡ true → First rows targets marks′ index′ working′ (sought .persons) (shelved sought writes room (hops + 1)) got
     shelve-first lt none =
         let k = inv .shelve in
         record {
           graph = k .seeking .graph;
-          wide = ap length (inv .same) ∙ k .wide;
+          wide = ap length (inv .same) ∙ inv .people;
           room = omega (arith, inv .long, inv .rooms);
           whole = refl;
           first = refl;
@@ -238,6 +243,7 @@ module _ {rows targets : List ℕ} {marks : List Bool} {index working : List ℕ
       unfolding halvesOf
       shelve-turn wide long = record {
         shelve = inv .shelve;
+        people = inv .people;
         rooms = inv .rooms;
         same = f .same ∙ inv .same;
         wide = wide ∙ inv .wide;
@@ -253,48 +259,47 @@ module _ {rows targets : List ℕ} {marks : List Bool} {index working : List ℕ
       }
 
 -- behind (To) alone
-module _ {rows targets : List ℕ} {marks marks₁ : List Bool} {index working working₁ : List ℕ} {sought : Sought} {writes : ℕ} {before : HandedOver} {marks′ : List Bool} {index′ working′ : List ℕ} {got : HandedOver} {hops : ℕ}
-    (b : Begun rows targets marks marks₁ working working₁ (shelved sought writes (length working / recordSize) 0) nothing before)
+module _ {rows targets : List ℕ} {marks₁ : List Bool} {index working working₁ : List ℕ} {sought : Sought} {writes : ℕ} {before : HandedOver} {marks′ : List Bool} {index′ working′ : List ℕ} {got : HandedOver} {hops : ℕ}
+    (b : Begun rows targets (fromMarked (sought .from)) marks₁ working working₁ (shelved sought writes (length working / recordSize) 0) nothing before)
     (inv : Shelving rows targets marks₁ index working₁ sought writes (length working / recordSize) before marks′ index′ working′ got hops) (over : Over hops (sought .hops / 2) (page got working′)) where
-  behind : page got working′ ≡ emits writes (length working / recordSize) (page before working₁) (map (recordWith blank 0) (fromOne (halvesOf (graphOf rows targets) (sought .persons) (sought .to) marks) (sought .hops / 2)))
+  behind : page got working′ ≡ emits writes (length working / recordSize) (page before working₁) (map (recordWith blank 0) (fromOne (halvesOf (graphOf rows targets) (sought .persons) (sought .to) (fromMarked (sought .from))) (sought .hops / 2)))
   behind = rw (b .same) at (turn-end (fromOne (halvesOf (graphOf rows targets) (sought .persons) (sought .to) marks₁)) (λ j. halvesOf (graphOf rows targets) (sought .persons) (sought .to) marks₁ (suc j)) (from-next (halvesOf (graphOf rows targets) (sought .persons) (sought .to) marks₁)) (recordWith blank 0) writes (length working / recordSize) (page before working₁) hops (inv .right) (inv .within) over)
 
   -- with nothing noted in the end, (To) alone was counted
-  alone : got .more ≡ 0 → before .count ≡ length (halvesFrom (graphOf rows targets) (sought .to) marks 0 (sought .to))
-  alone z = counted writes (length working / recordSize) (recordWith blank 0) (page nothing working) (page before working₁) (halvesFrom (graphOf rows targets) (sought .to) marks 0 (sought .to)) (b .right) (⊎-elim (λ e. e) (λ n. absurd (n (sym (ap (λ (q : Page). q .more) (behind ∙ emits-more writes (length working / recordSize) (page before working₁) _ n)) ∙ z))) (same-or-not (before .more) 0)) ∙ zero-add _
+  alone : got .more ≡ 0 → before .count ≡ length (halvesFrom (graphOf rows targets) (sought .to) (fromMarked (sought .from)) 0 (sought .to))
+  alone z = counted writes (length working / recordSize) (recordWith blank 0) (page nothing working) (page before working₁) (halvesFrom (graphOf rows targets) (sought .to) (fromMarked (sought .from)) 0 (sought .to)) (b .right) (⊎-elim (λ e. e) (λ n. absurd (n (sym (ap (λ (q : Page). q .more) (behind ∙ emits-more writes (length working / recordSize) (page before working₁) _ n)) ∙ z))) (same-or-not (before .more) 0)) ∙ zero-add _
 
-  pub shelve-end : Shelved rows targets marks marks′ index index′ working working′ sought writes got
+  pub shelve-end : Shelved rows targets index index′ working working′ sought writes got
   unfolding halvesOf
   shelve-end = record {
-    same = inv .same ∙ b .same;
-    right = rw (shorter-from (halvesOf (graphOf rows targets) (sought .persons) (sought .to) marks) (sought .hops / 2), map-append, emits-append, ← b .right) behind;
+    right = rw (shorter-from (halvesOf (graphOf rows targets) (sought .persons) (sought .to) (fromMarked (sought .from))) (sought .hops / 2), map-append, emits-append, ← b .right) behind;
     notes = λ z j p h l.
         let e : hops ≡ sought .hops / 2 = over-all (page got working′) over (inv .within) z in
-        let noted : getD index′ (placeOf (suc j) p) 0 ≡ before .count + length (fromOne (halvesOf (graphOf rows targets) (sought .persons) (sought .to) marks) j ++ halvesBelow (graphOf rows targets) (sought .to) marks (suc j) p) = rw (b .same) at (inv .notes z j p (omega (arith, e)) l) in
-        let shelf : length (shelfOf (graphOf rows targets) (sought .persons) (sought .to) marks j) ≡ length (halvesFrom (graphOf rows targets) (sought .to) marks 0 (sought .to)) + length (fromOne (halvesOf (graphOf rows targets) (sought .persons) (sought .to) marks) j) = ap length (shorter-from (halvesOf (graphOf rows targets) (sought .persons) (sought .to) marks) j) ∙ length-append (halvesFrom (graphOf rows targets) (sought .to) marks 0 (sought .to)) (fromOne (halvesOf (graphOf rows targets) (sought .persons) (sought .to) marks) j) in
-        omega (arith, noted, shelf, alone z, length-append (fromOne (halvesOf (graphOf rows targets) (sought .persons) (sought .to) marks) j) (halvesBelow (graphOf rows targets) (sought .to) marks (suc j) p), length-append (shelfOf (graphOf rows targets) (sought .persons) (sought .to) marks j) (halvesBelow (graphOf rows targets) (sought .to) marks (suc j) p));
+        let noted : getD index′ (placeOf (suc j) p) 0 ≡ before .count + length (fromOne (halvesOf (graphOf rows targets) (sought .persons) (sought .to) (fromMarked (sought .from))) j ++ halvesBelow (graphOf rows targets) (sought .to) (fromMarked (sought .from)) (suc j) p) = rw (b .same) at (inv .notes z j p (omega (arith, e)) l) in
+        let shelf : length (shelfOf (graphOf rows targets) (sought .persons) (sought .to) (fromMarked (sought .from)) j) ≡ length (halvesFrom (graphOf rows targets) (sought .to) (fromMarked (sought .from)) 0 (sought .to)) + length (fromOne (halvesOf (graphOf rows targets) (sought .persons) (sought .to) (fromMarked (sought .from))) j) = ap length (shorter-from (halvesOf (graphOf rows targets) (sought .persons) (sought .to) (fromMarked (sought .from))) j) ∙ length-append (halvesFrom (graphOf rows targets) (sought .to) (fromMarked (sought .from)) 0 (sought .to)) (fromOne (halvesOf (graphOf rows targets) (sought .persons) (sought .to) (fromMarked (sought .from))) j) in
+        omega (arith, noted, shelf, alone z, length-append (fromOne (halvesOf (graphOf rows targets) (sought .persons) (sought .to) (fromMarked (sought .from))) j) (halvesBelow (graphOf rows targets) (sought .to) (fromMarked (sought .from)) (suc j) p), length-append (shelfOf (graphOf rows targets) (sought .persons) (sought .to) (fromMarked (sought .from)) j) (halvesBelow (graphOf rows targets) (sought .to) (fromMarked (sought .from)) (suc j) p));
     others = inv .others;
   }
 
 -- ---- `gather`: what was handed over is the chains of fewer hops
 
-pub record Gathering (rows targets halves index : List ℕ) (marks₀ : List Bool) (out₀ : List ℕ) (sought : Sought) (marks : List Bool) (out : List ℕ) (got : HandedOver) (done : ℕ) : Type 0 where
-  pub gather : Gather rows targets halves index marks₀ out₀ sought
-  pub same : marks ≡ marks₀
+pub record Gathering (rows targets halves index out₀ : List ℕ) (sought : Sought) (marks : List Bool) (out : List ℕ) (got : HandedOver) (done : ℕ) : Type 0 where
+  pub gather : Gather rows targets halves index out₀ sought
+  pub same : marks ≡ fromMarked (sought .from)
   pub long : length out ≡ length out₀
   pub within : done ≤ sought .hops
-  pub right : page got out ≡ emits 1 (length out₀ / recordSize) (page nothing out₀) (map (recordWith (set blank 1 (sought .from)) 1) (fromOne (waysOf (graphOf rows targets) halves index marks₀ (sought .from) (sought .to)) done))
+  pub right : page got out ≡ emits 1 (length out₀ / recordSize) (page nothing out₀) (map (recordWith (set blank 1 (sought .from)) 1) (fromOne (waysOf (graphOf rows targets) halves index (fromMarked (sought .from)) (sought .from) (sought .to)) done))
 
 -- the numbers of the chains of L hops
 abbrev pub halved : Sought → ℕ → ℕ → Trace
 halved sought room L = record { to = sought .to; writes = 1; room = room; rest = rightHops L; len = 1; left = leftHops L; last = sought .from }
 
-module _ {rows targets halves index : List ℕ} {marks : List Bool} {out : List ℕ} {sought : Sought} where
-  pub gather-start : Gather rows targets halves index marks out sought → Gathering rows targets halves index marks out sought marks out nothing 0
+module _ {rows targets halves index out : List ℕ} {sought : Sought} where
+  pub gather-start : Gather rows targets halves index out sought → Gathering rows targets halves index out sought (fromMarked (sought .from)) out nothing 0
   unfolding fromOne emits
   gather-start k = record { gather = k; same = refl; long = refl; within = omega arith; right = refl }
 
-  module _ {marks′ : List Bool} {out′ : List ℕ} {got : HandedOver} {done : ℕ} (inv : Gathering rows targets halves index marks out sought marks′ out′ got done) where
+  module _ {marks′ : List Bool} {out′ : List ℕ} {got : HandedOver} {done : ℕ} (inv : Gathering rows targets halves index out sought marks′ out′ got done) where
     pub gather-going : done < sought .hops → eqb (got .more) 0 ≡ true → Going rows targets halves index marks′ out′ (set blank 1 (sought .from)) (halved sought (length out / recordSize) (done + 1)) got
     gather-going lt none =
         let k = inv .gather in
@@ -302,7 +307,7 @@ module _ {rows targets halves index : List ℕ} {marks : List Bool} {out : List 
           graph = k .seeking .graph;
           ready = record {
             opens = record {
-              wide = ap length (inv .same) ∙ k .wide;
+              wide = ap length (inv .same) ∙ from-wide (sought .from);
               room = omega (arith, inv .long);
               long = refl;
               some = omega arith;
@@ -315,17 +320,16 @@ module _ {rows targets halves index : List ℕ} {marks : List Bool} {out : List 
         }
 
     pub gather-turn : {marks″ : List Bool} {out″ : List ℕ} {got′ : HandedOver} → done < sought .hops → Extended rows targets halves index marks′ marks″ out′ out″ (set blank 1 (sought .from)) (halved sought (length out / recordSize) (done + 1)) got got′ → length out″ ≡ length out′
-        → Gathering rows targets halves index marks out sought marks″ out″ got′ (done + 1)
+        → Gathering rows targets halves index out sought marks″ out″ got′ (done + 1)
     gather-turn lt e long = record {
       gather = inv .gather;
       same = e .same ∙ inv .same;
       long = long ∙ inv .long;
       within = omega arith;
-      right = turn-next (fromOne (waysOf (graphOf rows targets) halves index marks (sought .from) (sought .to))) (λ i. waysOf (graphOf rows targets) halves index marks (sought .from) (sought .to) (suc i)) (from-next (waysOf (graphOf rows targets) halves index marks (sought .from) (sought .to))) (recordWith (set blank 1 (sought .from)) 1) 1 (length out / recordSize) (page nothing out) done (inv .right) (rw (inv .same, add-one done) at (e .right));
+      right = turn-next (fromOne (waysOf (graphOf rows targets) halves index (fromMarked (sought .from)) (sought .from) (sought .to))) (λ i. waysOf (graphOf rows targets) halves index (fromMarked (sought .from)) (sought .from) (sought .to) (suc i)) (from-next (waysOf (graphOf rows targets) halves index (fromMarked (sought .from)) (sought .from) (sought .to))) (recordWith (set blank 1 (sought .from)) 1) 1 (length out / recordSize) (page nothing out) done (inv .right) (rw (inv .same, add-one done) at (e .right));
     }
 
-    pub gather-end : Over done (sought .hops) (page got out′) → Gathered rows targets halves index marks marks′ out out′ sought got
+    pub gather-end : Over done (sought .hops) (page got out′) → Gathered rows targets halves index out out′ sought got
     gather-end over = record {
-      same = inv .same;
-      right = turn-end (fromOne (waysOf (graphOf rows targets) halves index marks (sought .from) (sought .to))) (λ i. waysOf (graphOf rows targets) halves index marks (sought .from) (sought .to) (suc i)) (from-next (waysOf (graphOf rows targets) halves index marks (sought .from) (sought .to))) (recordWith (set blank 1 (sought .from)) 1) 1 (length out / recordSize) (page nothing out) done (inv .right) (inv .within) over;
+      right = turn-end (fromOne (waysOf (graphOf rows targets) halves index (fromMarked (sought .from)) (sought .from) (sought .to))) (λ i. waysOf (graphOf rows targets) halves index (fromMarked (sought .from)) (sought .from) (sought .to) (suc i)) (from-next (waysOf (graphOf rows targets) halves index (fromMarked (sought .from)) (sought .from) (sought .to))) (recordWith (set blank 1 (sought .from)) 1) 1 (length out / recordSize) (page nothing out) done (inv .right) (inv .within) over;
     }

@@ -1,10 +1,10 @@
 -- What writing the half chains and gathering the chains ask, and what they do. Definitions only.
 use mathlib.Core.Path.{_≡_}
-use mathlib.Core.Bool.{Bool}
+use mathlib.Core.Bool.{Bool, true, false}
 use mathlib.Core.List.{List, [], _++_, map, flatMap}
 use mathlib.Core.Logic.{_≢_}
 use Prim.Native.Nat.{ℕ, zero, suc, _+_, _*_, _/_, _≤_, _<_}
-use lib.ListN.{length, getD, set}
+use lib.ListN.{length, getD, set, replicate}
 use Rattle.ways.specs.Graph.{Graph, _∈_}
 use Rattle.ways.specs.ByHops.{shorterFirst}
 use Rattle.ways.specs.Halves.{personsBelow}
@@ -88,16 +88,18 @@ shelfOf g n to marks = shorterFirst (halvesOf g n to marks)
 abbrev pub halvesBefore : Graph → ℕ → ℕ → List Bool → ℕ → ℕ → List (List ℕ)
 halvesBefore g n to marks j p = shelfOf g n to marks j ++ halvesBelow g to marks (suc j) p
 
+-- From is marked, and nobody else
+abbrev pub fromMarked : ℕ → List Bool
+fromMarked from = set (replicate persons false) from true
+
 -- a row of the index for each number of hops, "0 to k/2 hops", but none for (To) alone
-pub record Shelve (rows targets : List ℕ) (marks : List Bool) (index working : List ℕ) (sought : Sought) (writes : ℕ) : Type 0 where
+pub record Shelve (rows targets : List ℕ) (index working : List ℕ) (sought : Sought) (writes : ℕ) : Type 0 where
   pub seeking : Seeking rows targets sought
-  pub wide : length marks ≡ persons
   pub within : mostHops / 2 * suc persons ≤ length index
 
-pub record Shelved (rows targets : List ℕ) (marks marks′ : List Bool) (index index′ working working′ : List ℕ) (sought : Sought) (writes : ℕ) (after : HandedOver) : Type 0 where
-  pub same : marks′ ≡ marks
-  pub right : page after working′ ≡ emits writes (length working / recordSize) (page nothing working) (map (recordWith blank 0) (shelfOf (graphOf rows targets) (sought .persons) (sought .to) marks (sought .hops / 2)))
-  pub notes : after .more ≡ 0 → (j p : ℕ) → j < sought .hops / 2 → p ≤ sought .persons → getD index′ (placeOf (suc j) p) 0 ≡ length (halvesBefore (graphOf rows targets) (sought .persons) (sought .to) marks j p)
+pub record Shelved (rows targets : List ℕ) (index index′ working working′ : List ℕ) (sought : Sought) (writes : ℕ) (after : HandedOver) : Type 0 where
+  pub right : page after working′ ≡ emits writes (length working / recordSize) (page nothing working) (map (recordWith blank 0) (shelfOf (graphOf rows targets) (sought .persons) (sought .to) (fromMarked (sought .from)) (sought .hops / 2)))
+  pub notes : after .more ≡ 0 → (j p : ℕ) → j < sought .hops / 2 → p ≤ sought .persons → getD index′ (placeOf (suc j) p) 0 ≡ length (halvesBefore (graphOf rows targets) (sought .persons) (sought .to) (fromMarked (sought .from)) j p)
   pub others : (j p : ℕ) → sought .persons < p → p ≤ persons → getD index′ (placeOf (suc j) p) 0 ≡ getD index (placeOf (suc j) p) 0
 
 -- the lists of 1, 2, .. up to k hops, one after the other
@@ -109,11 +111,9 @@ fromOne f (suc k) = fromOne f k ++ f (suc k)
 abbrev pub waysOf : Graph → List ℕ → List ℕ → List Bool → ℕ → ℕ → ℕ → List (List ℕ)
 waysOf g halves index marks from to L = following g (rightsOf halves index to (rightHops L)) (leftHops L) marks from
 
-pub record Gather (rows targets halves index : List ℕ) (marks : List Bool) (out : List ℕ) (sought : Sought) : Type 0 where
+pub record Gather (rows targets halves index out : List ℕ) (sought : Sought) : Type 0 where
   pub seeking : Seeking rows targets sought
   pub indexed : (rest : ℕ) → 1 ≤ rest → rest ≤ sought .hops / 2 → Indexed halves index rest
-  pub wide : length marks ≡ persons
 
-pub record Gathered (rows targets halves index : List ℕ) (marks marks′ : List Bool) (out out′ : List ℕ) (sought : Sought) (after : HandedOver) : Type 0 where
-  pub same : marks′ ≡ marks
-  pub right : page after out′ ≡ emits 1 (length out / recordSize) (page nothing out) (map (recordWith (set blank 1 (sought .from)) 1) (fromOne (waysOf (graphOf rows targets) halves index marks (sought .from) (sought .to)) (sought .hops)))
+pub record Gathered (rows targets halves index out out′ : List ℕ) (sought : Sought) (after : HandedOver) : Type 0 where
+  pub right : page after out′ ≡ emits 1 (length out / recordSize) (page nothing out) (map (recordWith (set blank 1 (sought .from)) 1) (fromOne (waysOf (graphOf rows targets) halves index (fromMarked (sought .from)) (sought .from) (sought .to)) (sought .hops)))

@@ -15,17 +15,19 @@ pub fn gather(
     targets: &[u16; LINKS],
     halves: &[u32],
     index: &[usize],
-    marks: &mut [bool; PERSONS],
     out: &mut [u32],
     sought: Sought,
 ) -> HandedOver
-    requires { ⌜ Gather (now rows) (now targets) (now halves) (now index) (now marks) (now out) sought ⌝ }
-    ensures { λ r. ⌜ Gathered (now (rows .entry)) (now (targets .entry)) (now (halves .entry)) (now (index .entry)) (now (marks .entry)) (now (marks .exit)) (now (out .entry)) (now (out .exit)) sought r ⌝ }
+    requires { ⌜ Gather (now rows) (now targets) (now halves) (now index) (now out) sought ⌝ }
+    ensures { λ r. ⌜ Gathered (now (rows .entry)) (now (targets .entry)) (now (halves .entry)) (now (index .entry)) (now (out .entry)) (now (out .exit)) sought r ⌝ }
 {
     let hops = sought.hops;
+    let from = sought.from;
     let room = out.len() / RECORD;
     let mut chain = [0u32; RECORD];
-    chain[1] = sought.from as u32;
+    chain[1] = from as u32;
+    let mut marks = [false; PERSONS];
+    marks[from] = true;
     let mut got = HandedOver { count: 0, more: 0 };
     let mut length = 0;
     while length < hops && got.more == 0 {
@@ -38,9 +40,19 @@ pub fn gather(
             rest: length - left,
             len: 1,
             left: left,
-            last: sought.from,
+            last: from,
         };
-        got = crate::extend::extend(rows, targets, halves, index, marks, out, chain, trace, got);
+        got = crate::extend::extend(
+            rows,
+            targets,
+            halves,
+            index,
+            &mut marks,
+            out,
+            chain,
+            trace,
+            got,
+        );
     }
     got
 }

@@ -74,20 +74,22 @@ fn by_first_person(
     got
 }
 
-// All half chains, shorter first, then in dictionary order: (To) alone, and those of 1, 2, .. hops.
+// All half chains, shorter first, then in dictionary order: (To) alone, and those of 1, 2, .. hops. From is marked all the time.
 pub fn shelve(
     rows: &[u16; STARTS],
     targets: &[u16; LINKS],
-    marks: &mut [bool; PERSONS],
     index: &mut [usize],
     working: &mut [u32],
     sought: Sought,
     writes: usize,
 ) -> HandedOver
-    requires { ⌜ Shelve (now rows) (now targets) (now marks) (now index) (now working) sought writes ⌝ }
-    ensures { λ r. ⌜ Shelved (now (rows .entry)) (now (targets .entry)) (now (marks .entry)) (now (marks .exit)) (now (index .entry)) (now (index .exit)) (now (working .entry)) (now (working .exit)) sought writes r ⌝ }
+    requires { ⌜ Shelve (now rows) (now targets) (now index) (now working) sought writes ⌝ }
+    ensures { λ r. ⌜ Shelved (now (rows .entry)) (now (targets .entry)) (now (index .entry)) (now (index .exit)) (now (working .entry)) (now (working .exit)) sought writes r ⌝ }
 {
     let most = sought.hops / 2;
+    let from = sought.from;
+    let mut marks = [false; PERSONS];
+    marks[from] = true;
     let alone = Trace {
         to: sought.to,
         writes: writes,
@@ -97,14 +99,8 @@ pub fn shelve(
         left: 0,
         last: sought.to,
     };
-    let mut got = begin(
-        rows,
-        targets,
-        marks,
-        working,
-        alone,
-        HandedOver { count: 0, more: 0 },
-    );
+    let none = HandedOver { count: 0, more: 0 };
+    let mut got = begin(rows, targets, &mut marks, working, alone, none);
     let mut hops = 0;
     while hops < most && got.more == 0 {
         hops += 1;
@@ -113,7 +109,7 @@ pub fn shelve(
         got = by_first_person(
             rows,
             targets,
-            marks,
+            &mut marks,
             index,
             working,
             sought.persons,

@@ -1,10 +1,10 @@
 -- The join over the compact graph: what it hands down is as its functions ask, and what comes back are the half chains and the chains by hops.
 use mathlib.Core.Path.{_≡_, refl, sym, ap, subst, _∙_}
-use mathlib.Core.Bool.{Bool, true, false, cond}
+use mathlib.Core.Bool.{true, false, cond}
 use mathlib.Core.List.{List, [], _∷_, _++_, map, map-append}
 use mathlib.Core.Logic.{⊎-elim}
 use Prim.Native.Nat.{ℕ, zero, suc, _*_, _/_, _≤_, _<_}
-use lib.ListN.{length, getD, set, take, replicate, length-set, length-replicate, getD-replicate, List·getD-eq-default}
+use lib.ListN.{length, getD, take, replicate, length-replicate, getD-replicate, List·getD-eq-default}
 use lib.Seq.{take-all}
 use lib.Dec.{eqb, ltb, leb}
 use native.Mathlib.Omega.{arith}
@@ -28,7 +28,7 @@ use Rattle.pages.specs.declared.HandedOver.{HandedOver}
 use Rattle.join.specs.Answers.{halvesIn, JoinsIn}
 use Rattle.half_chains.specs.Pages.{page}
 use Rattle.half_chains.specs.Traces.{placeOf, rightsOf}
-use Rattle.half_chains.specs.Shelf.{Seeking, nothing, shelfOf, halvesBefore, Shelve, Shelved, fromOne, waysOf, Gather, Gathered}
+use Rattle.half_chains.specs.Shelf.{Seeking, nothing, shelfOf, fromMarked, Shelve, Shelved, fromOne, waysOf, Gather, Gathered}
 use Rattle.half_chains.specs.declared.traces.Sought.{Sought}
 use Rattle.refusals.specs.declared.Answer as code
 use Rattle.half_chains.proofs.Shelving.{shorter-from}
@@ -36,10 +36,6 @@ use Rattle.half_chains.proofs.Meeting.{meet-all}
 use Rattle.pages.proofs.Recording.{records-blank, records-first}
 use Rattle.pages.proofs.Handing.{emits-cells, emits-noted, emits-written}
 use Rattle.half_chains.proofs.Standing.{all-halves, all-fit, rights-index, indexed-halves}
-
--- From is marked
-abbrev pub marked-from : ℕ → List Bool
-marked-from from = set (replicate persons false) from true
 
 -- an index with nothing in it
 abbrev pub blank-index : List ℕ
@@ -61,18 +57,18 @@ module _ {rows targets : List ℕ} {sought : Sought} (k : Seeking rows targets s
   unfolding chainsOf listing ways keep
   joined-none = join (graphOf rows targets) (k .graph .rising) (sought .persons) (k .low) (sought .from) (sought .to) (k .differ) 0
 
-  from-marked : Marked (marked-from (sought .from)) (sought .from ∷ [])
+  from-marked : Marked (fromMarked (sought .from)) (sought .from ∷ [])
   from-marked = marked-more (sought .from) (omega (arith, k .source, k .known)) nobody
 
   -- ---- the half chains are counted, then written
 
-  pub graph-shelve : {marks : List Bool} {index working : List ℕ} {writes : ℕ} → length marks ≡ persons → length index ≡ length blank-index → Shelve rows targets marks index working sought writes
-  graph-shelve m i = record { seeking = k; wide = m; within = omega (arith, i, length-replicate {A = ℕ} (mostHops / 2 * suc persons) 0) }
+  pub graph-shelve : {index working : List ℕ} {writes : ℕ} → length index ≡ length blank-index → Shelve rows targets index working sought writes
+  graph-shelve i = record { seeking = k; within = omega (arith, i, length-replicate {A = ℕ} (mostHops / 2 * suc persons) 0) }
 
-  shelved-halves : {marks : List Bool} → marks ≡ marked-from (sought .from) → map (recordWith blank 0) (shelfOf (graphOf rows targets) (sought .persons) (sought .to) marks (sought .hops / 2)) ≡ map (recordOf recordSize) (halvesIn rows targets (sought .persons) (sought .from) (sought .to) (sought .hops))
-  shelved-halves m = rw (m, all-halves k (marked-from (sought .from)) from-marked) (records-blank (halvesIn rows targets (sought .persons) (sought .from) (sought .to) (sought .hops)) (all-fit k))
+  shelved-halves : map (recordWith blank 0) (shelfOf (graphOf rows targets) (sought .persons) (sought .to) (fromMarked (sought .from)) (sought .hops / 2)) ≡ map (recordOf recordSize) (halvesIn rows targets (sought .persons) (sought .from) (sought .to) (sought .hops))
+  shelved-halves = rw (all-halves k (fromMarked (sought .from)) from-marked) (records-blank (halvesIn rows targets (sought .persons) (sought .from) (sought .to) (sought .hops)) (all-fit k))
 
-  module _ {marks : List Bool} {index working working₁ : List ℕ} {counted : HandedOver} (c : Shelved rows targets (marked-from (sought .from)) marks blank-index index working working₁ sought 0 counted) where
+  module _ {index working working₁ : List ℕ} {counted : HandedOver} (c : Shelved rows targets blank-index index working working₁ sought 0 counted) where
     -- only counted: no cell has changed
     pub counted-cells : working₁ ≡ working
     counted-cells = ap (λ (q : Page). q .cells) (c .right) ∙ emits-cells (length working / recordSize) (page nothing working) _
@@ -80,7 +76,7 @@ module _ {rows targets : List ℕ} {sought : Sought} (k : Seeking rows targets s
     counted-more : counted .more ≡ cond (ltb (length working / recordSize) (length (halvesIn rows targets (sought .persons) (sought .from) (sought .to) (sought .hops)))) 1 0
     counted-more =
         ap (λ (q : Page). q .more) (c .right)
-        ∙ ap (λ (l : List (List ℕ)). emits 0 (length working / recordSize) (page nothing working) l .more) (shelved-halves refl)
+        ∙ ap (λ (l : List (List ℕ)). emits 0 (length working / recordSize) (page nothing working) l .more) shelved-halves
         ∙ emits-noted (length working / recordSize) (map (recordOf recordSize) (halvesIn rows targets (sought .persons) (sought .from) (sought .to) (sought .hops))) 0 0 working working
         ∙ ap (λ (q : Page). q .more) (emits-written working (halvesIn rows targets (sought .persons) (sought .from) (sought .to) (sought .hops)) (all-fit k))
 
@@ -94,18 +90,15 @@ module _ {rows targets : List ℕ} {sought : Sought} (k : Seeking rows targets s
     fits-all : counted .more ≡ 0 → length (halvesIn rows targets (sought .persons) (sought .from) (sought .to) (sought .hops)) ≤ length working / recordSize
     fits-all z = ⊎-elim (λ l. absurd (let o : _≡_ {A = ℕ} 0 1 = sym z ∙ counted-more ∙ rw (lt-ltb (length working / recordSize) (length (halvesIn rows targets (sought .persons) (sought .from) (sought .to) (sought .hops))) l) in omega arith)) (λ l. l) (lt-or-le (length working / recordSize) (length (halvesIn rows targets (sought .persons) (sought .from) (sought .to) (sought .hops))))
 
-    module _ (z : counted .more ≡ 0) {marks₂ : List Bool} {index₂ working₂ : List ℕ} {shelved : HandedOver} (w : Shelved rows targets marks marks₂ index index₂ working₁ working₂ sought 1 shelved) where
-      marks-same : marks₂ ≡ marked-from (sought .from)
-      marks-same = w .same ∙ c .same
-
+    module _ (z : counted .more ≡ 0) {index₂ working₂ : List ℕ} {shelved : HandedOver} (w : Shelved rows targets index index₂ working₁ working₂ sought 1 shelved) where
       room : length (halvesIn rows targets (sought .persons) (sought .from) (sought .to) (sought .hops)) ≤ length working / recordSize
       room = fits-all z
 
       page-written : page shelved working₂ ≡ record { count = length (take (length working / recordSize) (halvesIn rows targets (sought .persons) (sought .from) (sought .to) (sought .hops))); more = cond (ltb (length working / recordSize) (length (halvesIn rows targets (sought .persons) (sought .from) (sought .to) (sought .hops)))) 1 0; cells = written recordSize (take (length working / recordSize) (halvesIn rows targets (sought .persons) (sought .from) (sought .to) (sought .hops))) working }
       page-written =
           w .right
-          ∙ ap (λ (l : List ℕ). emits 1 (length l / recordSize) (page nothing l) (map (recordWith blank 0) (shelfOf (graphOf rows targets) (sought .persons) (sought .to) marks (sought .hops / 2)))) counted-cells
-          ∙ ap (emits 1 (length working / recordSize) (page nothing working)) (shelved-halves (c .same))
+          ∙ ap (λ (l : List ℕ). emits 1 (length l / recordSize) (page nothing l) (map (recordWith blank 0) (shelfOf (graphOf rows targets) (sought .persons) (sought .to) (fromMarked (sought .from)) (sought .hops / 2)))) counted-cells
+          ∙ ap (emits 1 (length working / recordSize) (page nothing working)) shelved-halves
           ∙ emits-written working (halvesIn rows targets (sought .persons) (sought .from) (sought .to) (sought .hops)) (all-fit k)
 
       working-written : working₂ ≡ written recordSize (halvesIn rows targets (sought .persons) (sought .from) (sought .to) (sought .hops)) working
@@ -113,9 +106,6 @@ module _ {rows targets : List ℕ} {sought : Sought} (k : Seeking rows targets s
 
       noted : shelved .more ≡ 0
       noted = ap (λ (q : Page). q .more) page-written ∙ rw (le-ltb (length working / recordSize) (length (halvesIn rows targets (sought .persons) (sought .from) (sought .to) (sought .hops))) room)
-
-      notes : (j p : ℕ) → j < sought .hops / 2 → p ≤ sought .persons → getD index₂ (placeOf (suc j) p) 0 ≡ length (halvesBefore (graphOf rows targets) (sought .persons) (sought .to) (marked-from (sought .from)) j p)
-      notes j p h l = rw (← c .same) (w .notes noted j p h l)
 
       -- nobody but the persons of the file has a place
       empty : (j p : ℕ) → sought .persons < p → p ≤ persons → getD index₂ (placeOf (suc j) p) 0 ≡ 0
@@ -125,25 +115,24 @@ module _ {rows targets : List ℕ} {sought : Sought} (k : Seeking rows targets s
         long : mostHops / 2 * suc persons ≤ length index₂
         long = omega (arith, wide, length-replicate {A = ℕ} (mostHops / 2 * suc persons) 0)
 
-        pub graph-gather : {out : List ℕ} → Gather rows targets working₂ index₂ marks₂ out sought
+        pub graph-gather : {out : List ℕ} → Gather rows targets working₂ index₂ out sought
         graph-gather = record {
           seeking = k;
-          indexed = λ rest i h. rw working-written (indexed-halves k (marked-from (sought .from)) from-marked working index₂ (omega (arith, room)) long notes empty rest i h);
-          wide = ap length marks-same ∙ length-set (replicate persons false) (sought .from) true ∙ length-replicate persons false;
+          indexed = λ rest i h. rw working-written (indexed-halves k (fromMarked (sought .from)) from-marked working index₂ (omega (arith, room)) long (w .notes noted) empty rest i h);
         }
 
         -- the chains of L hops
-        ways-joined : (L : ℕ) → L ≤ sought .hops → map (_∷_ (sought .from)) (waysOf (graphOf rows targets) working₂ index₂ marks₂ (sought .from) (sought .to) L) ≡ joined (graphOf rows targets) (sought .persons) (sought .from) (sought .to) L
+        ways-joined : (L : ℕ) → L ≤ sought .hops → map (_∷_ (sought .from)) (waysOf (graphOf rows targets) working₂ index₂ (fromMarked (sought .from)) (sought .from) (sought .to) L) ≡ joined (graphOf rows targets) (sought .persons) (sought .from) (sought .to) L
         unfolding joined
         ways-joined L l =
-            rw (marks-same, working-written)
+            rw working-written
             (meet-all (k .graph) (rightsOf (written recordSize (halvesIn rows targets (sought .persons) (sought .from) (sought .to) (sought .hops)) working) index₂ (sought .to) (rightHops L)) (halfChains (graphOf rows targets) (sought .persons) (sought .from) (sought .to) (rightHops L))
-            (rights-index k (marked-from (sought .from)) from-marked working index₂ (omega (arith, room)) long notes empty (rightHops L) (right-within L (sought .hops) l))
-            (leftHops L) (sought .from) (marked-from (sought .from)) from-marked (omega (arith, k .source, k .known)))
+            (rights-index k (fromMarked (sought .from)) from-marked working index₂ (omega (arith, room)) long (w .notes noted) empty (rightHops L) (right-within L (sought .hops) l))
+            (leftHops L) (sought .from) (fromMarked (sought .from)) from-marked (omega (arith, k .source, k .known)))
 
-        chains-joined : map (_∷_ (sought .from)) (fromOne (waysOf (graphOf rows targets) working₂ index₂ marks₂ (sought .from) (sought .to)) (sought .hops)) ≡ byHops (graphOf rows targets) (sought .from) (sought .to) (sought .hops)
+        chains-joined : map (_∷_ (sought .from)) (fromOne (waysOf (graphOf rows targets) working₂ index₂ (fromMarked (sought .from)) (sought .from) (sought .to)) (sought .hops)) ≡ byHops (graphOf rows targets) (sought .from) (sought .to) (sought .hops)
         chains-joined =
-            from-map (sought .from) (waysOf (graphOf rows targets) working₂ index₂ marks₂ (sought .from) (sought .to)) (joined (graphOf rows targets) (sought .persons) (sought .from) (sought .to)) (sought .hops) ways-joined
+            from-map (sought .from) (waysOf (graphOf rows targets) working₂ index₂ (fromMarked (sought .from)) (sought .from) (sought .to)) (joined (graphOf rows targets) (sought .persons) (sought .from) (sought .to)) (sought .hops) ways-joined
             ∙ sym (shorter-from (joined (graphOf rows targets) (sought .persons) (sought .from) (sought .to)) (sought .hops) ∙ ap (λ (l : List (List ℕ)). l ++ fromOne (joined (graphOf rows targets) (sought .persons) (sought .from) (sought .to)) (sought .hops)) joined-none)
             ∙ join-all (graphOf rows targets) (k .graph .rising) (sought .persons) (k .low) (sought .from) (sought .to) (k .differ) (sought .hops)
 
@@ -153,14 +142,14 @@ module _ {rows targets : List ℕ} {sought : Sought} (k : Seeking rows targets s
         ended : (d n : ℕ) → eqb (cond (ltb d n) 1 0) 0 ≡ leb n d
         ended d n = ⊎-elim (λ l. rw (lt-ltb d n l, lt-leb n d l)) (λ l. rw (le-ltb d n l, le-leb n d l)) (lt-or-le d n)
 
-        pub graph-joined : {marks₃ : List Bool} {out out′ : List ℕ} {found : HandedOver} → Gathered rows targets working₂ index₂ marks₂ marks₃ out out′ sought found
+        pub graph-joined : {out out′ : List ℕ} {found : HandedOver} → Gathered rows targets working₂ index₂ out out′ sought found
             → JoinsIn rows targets (sought .persons) (sought .from) (sought .to) (sought .hops) working working₂ out out′ (code.the-variants.Listed (found .count) (eqb (found .more) 0))
         graph-joined {out = out} {out′} {found} g =
             let C = byHops (graphOf rows targets) (sought .from) (sought .to) (sought .hops) in
             let done : page found out′ ≡ record { count = length (take (length out / recordSize) C); more = cond (ltb (length out / recordSize) (length C)) 1 0; cells = written recordSize (take (length out / recordSize) C) out } =
             g .right
             ∙ ap (emits 1 (length out / recordSize) (page nothing out))
-            (records-first (sought .from) (fromOne (waysOf (graphOf rows targets) working₂ index₂ marks₂ (sought .from) (sought .to)) (sought .hops)) (λ x m. chains-fit x (subst (λ l. x ∈ l) chains-joined m)) ∙ ap (map (recordOf recordSize)) chains-joined)
+            (records-first (sought .from) (fromOne (waysOf (graphOf rows targets) working₂ index₂ (fromMarked (sought .from)) (sought .from) (sought .to)) (sought .hops)) (λ x m. chains-fit x (subst (λ l. x ∈ l) chains-joined m)) ∙ ap (map (recordOf recordSize)) chains-joined)
             ∙ emits-written out C chains-fit in
             let count = ap (λ (q : Page). q .count) done in
             let more = ap (λ (q : Page). q .more) done in

@@ -4,7 +4,6 @@
 // lent working cells; then the chains are gathered from them. It promises the listing by hops, shorter first, then in dictionary
 // order, and every cell that it leaves.
 use compact::LINKS;
-use compact::PERSONS;
 use compact::STARTS;
 use format::header;
 use half_chains::INDEX;
@@ -37,41 +36,22 @@ fn join_graph(
     requires { ⌜ Passed (now rows) (now targets) persons from to hops ⌝ }
     ensures { λ r. ⌜ JoinsIn (now (rows .entry)) (now (targets .entry)) persons from to hops (now (working .entry)) (now (working .exit)) (now (out .entry)) (now (out .exit)) r ⌝ }
 {
-    let source = from as usize;
     let sought = Sought {
         persons: persons,
-        from: source,
+        from: from as usize,
         to: to as usize,
         hops: hops as usize,
     };
-    let mut marks = [false; PERSONS];
-    marks[source] = true;
     let mut index = [0usize; INDEX];
-    let counted = halves::shelve(
-        rows,
-        targets,
-        &mut marks,
-        &mut index,
-        working,
-        sought,
-        COUNT,
-    );
+    let counted = halves::shelve(rows, targets, &mut index, working, sought, COUNT);
     if counted.more != 0 {
         return Answer::Refused {
             number: 18,
             place: 0,
         };
     }
-    halves::shelve(
-        rows,
-        targets,
-        &mut marks,
-        &mut index,
-        working,
-        sought,
-        WRITE,
-    );
-    let found = chains::gather(rows, targets, working, &index, &mut marks, out, sought);
+    halves::shelve(rows, targets, &mut index, working, sought, WRITE);
+    let found = chains::gather(rows, targets, working, &index, out, sought);
     Answer::Listed {
         count: found.count,
         ended: found.more == 0,
