@@ -1,11 +1,13 @@
 // Lists every chain that a question finds in a file: both come on standard input, the lines go to standard output.
 //
-// Nothing is decided here: `pages` makes what is printed, a page at a time, and its promise names every byte of it (specs/Pages). What
-// is left is to read, and to write each page before the next one is made: no contract can say that. It streams, in fixed memory: a
+// Nothing is decided here: `sheets` makes what is printed, a sheet at a time, and its promise names every byte of it (specs/Sheets). What
+// is left is to read, and to write each sheet before the next one is made: no contract can say that. It streams, in fixed memory: a
 // portion of 4,096 chains is printed before the next one is asked for. A write that fails, as to a closed pipe, ends it.
+mod ahead;
 mod onward;
-mod pages;
+mod progress;
 mod reading;
+mod sheets;
 
 use libc::STDIN_FILENO;
 use libc::STDOUT_FILENO;
@@ -35,21 +37,21 @@ fn record_space() -> [u32; CELLS]
     [0; CELLS]
 }
 
-// Page by page, until one is empty: then nothing is left.
+// Sheet by sheet, until one is empty: then nothing is left.
 fn print(input: &[u8], cells: &mut [u32], out: &mut [u8])
     requires { ⌜ (recordSize ≤ length (now cells)) × (longestLine ≤ length (now out)) ⌝ }
 {
-    let mut progress = pages::begin();
+    let mut progress = progress::begin();
     loop {
-        let page = pages::next_page(input, progress, cells, out);
-        let bytes = page.bytes;
+        let sheet = sheets::next_sheet(input, progress, cells, out);
+        let bytes = sheet.bytes;
         if bytes == 0 {
             return;
         }
         if !io::write_all(STDOUT_FILENO, &out[..bytes]) {
             return;
         }
-        let after = page.progress;
+        let after = sheet.progress;
         progress = after;
     }
 }
