@@ -16,10 +16,11 @@ use Rattle.question.specs.Asked.{askedFault}
 use Rattle.question.specs.Admission.{next}
 use Rattle.question.proofs.Leads.{next-below, next-rising}
 use Rattle.portion.specs.Listing.{listingFor}
+use Rattle.text.specs.Decimal.{digitCount}
 use Rattle.portion.proofs.Starting.{asked-file, asked-proper, asked-few}
 
 -- forty digits are enough for the number of chains
-pub count-fits : (file : List ℕ) (q : Question) → askedFault file q ≡ sound → length (listingFor file q) < 10 ^ 40
+pub count-fits : (file : List ℕ) (q : Question) → askedFault file q ≡ sound → length (listingFor file q) < 10 ^ digitCount
 count-fits file q e =
     let passed = sound-rules file (asked-file file q e) in
     let people : personCount file ≤ 1024 = asked-few file q e in
