@@ -16,9 +16,10 @@ use Rattle.question.specs.Admission.{next}
 use Rattle.question.proofs.Answerable.{asked-answerable}
 use Rattle.question.proofs.Leads.{next-below, next-rising}
 use Rattle.portion.specs.Listing.{listingFor}
+use Rattle.text.specs.Decimal.{digitCount}
 
 -- forty digits are enough for the number of chains
-pub count-fits : (file : List ℕ) (q : Question) → askedFault file q ≡ sound → length (listingFor file q) < 10 ^ 40
+pub count-fits : (file : List ℕ) (q : Question) → askedFault file q ≡ sound → length (listingFor file q) < 10 ^ digitCount
 count-fits file q e =
     let a = asked-answerable file q e in
     let few : (p : ℕ) → length (next file q p) ≤ mostPersons = λ p. omega (arith, a .few, rising-few (personCount file) 0 (next file q p) (next-rising (a .rules) q p) (λ y m. (omega arith, next-below (a .rules) q p m)) (omega (arith, a .few))) in

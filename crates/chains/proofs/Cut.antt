@@ -18,13 +18,13 @@ use Rattle.question.specs.declared.Question.{Question}
 use Rattle.question.specs.Asked.{askedFault}
 use Rattle.portion.specs.Listing.{listingFor}
 use Rattle.text.specs.Lines.{refusalLine}
-use Rattle.chains.specs.Program.{questionSize, questionIn, textFor, printed, longestInput, printedFor, longRefusal}
-use Rattle.chains.specs.Pages.{Begins, Run, laid}
-use Rattle.chains.specs.declared.pages.Progress.{Progress}
-use Rattle.chains.proofs.Putting.{laid-pages}
+use Rattle.chains.specs.Program.{questionSize, questionIn, textFor, printed, longestFile, longestInput, printedFor, longRefusal}
+use Rattle.chains.specs.Sheets.{Begins, Run, laid}
+use Rattle.chains.specs.declared.progress.Progress.{Progress}
+use Rattle.chains.proofs.Putting.{laid-sheets}
 
 -- ---- a file longer than any file
-long-fault : (file : List ℕ) → 53348 < length file → fileFault file ≡ fault (longRefusal file) 0
+long-fault : (file : List ℕ) → longestFile < length file → fileFault file ≡ fault (longRefusal file) 0
 unfolding fileFault
 long-fault file h = go (marked file) (countsFit file) (laidOut file) refl refl
   where
@@ -37,7 +37,7 @@ long-fault file h = go (marked file) (countsFit file) (laidOut file) refl refl
         let long = laid-out-long file ec in
         absurd (omega (arith, fit .persons, fit .links, fit .feeds))
 
-long-text : (file : List ℕ) (q : Question) (chains : List (List ℕ)) → 53348 < length file → textFor (askedFault file q) chains 0 ≡ refusalLine (longRefusal file) 0
+long-text : (file : List ℕ) (q : Question) (chains : List (List ℕ)) → longestFile < length file → textFor (askedFault file q) chains 0 ≡ refusalLine (longRefusal file) 0
 long-text file q chains h = rw (long-fault file h)
 
 -- ---- the first bytes decide which refusal it is
@@ -73,13 +73,13 @@ drop-take (suc m) n (x ∷ l) = rw suc-add (drop-take m n l)
 
 -- ---- the laws
 -- a file of more bytes than any has is refused by 1, 2 or 3
-pub long-printed : (input : List ℕ) → questionSize + 53348 < length input → printed input ≡ refusalLine (longRefusal (drop questionSize input)) 0
+pub long-printed : (input : List ℕ) → questionSize + longestFile < length input → printed input ≡ refusalLine (longRefusal (drop questionSize input)) 0
 long-printed input h =
     let asks : questionSize ≤ length input = omega arith in
     rw (le-ltb (length input) questionSize asks) (long-text (drop questionSize input) (questionIn input) (listingFor (drop questionSize input) (questionIn input)) (omega (arith, length-drop questionSize input)))
 
 -- so many bytes of it are refused as the whole is
-cut-at : (n : ℕ) (input : List ℕ) → 53348 < n → questionSize + n ≤ length input → printed (take (questionSize + n) input) ≡ printed input
+cut-at : (n : ℕ) (input : List ℕ) → longestFile < n → questionSize + n ≤ length input → printed (take (questionSize + n) input) ≡ printed input
 cut-at n input h l =
     let file = drop questionSize input in
     long-printed (take (questionSize + n) input) (omega (arith, length-take-le (questionSize + n) input l))
@@ -93,8 +93,8 @@ cut-same stdin = go (leb (length stdin) longestInput) refl
   where
     go : (t : Bool) → leb (length stdin) longestInput ≡ t → printedFor stdin ≡ printed stdin
     go true t = ap printed (take-all longestInput stdin (leb-true (length stdin) longestInput t))
-    go false t = cut-at 53349 stdin (omega arith) (omega (arith, leb-false (length stdin) longestInput t))
+    go false t = cut-at (longestFile + 1) stdin (omega arith) (omega (arith, leb-false (length stdin) longestInput t))
 
--- whatever stands on standard input: the pages of a run over the bytes that are taken, laid end to end, are what is printed for it
-pub run-prints : (stdin : List ℕ) {cells : List ℕ} {progress : Progress} {pages : List (List ℕ)} → Begins progress → Run (take longestInput stdin) cells progress pages → laid pages ≡ printed stdin
-run-prints stdin b run = laid-pages b run ∙ cut-same stdin
+-- whatever stands on standard input: the sheets of a run over the bytes that are taken, laid end to end, are what is printed for it
+pub run-prints : (stdin : List ℕ) {cells : List ℕ} {progress : Progress} {sheets : List (List ℕ)} → Begins progress → Run (take longestInput stdin) cells progress sheets → laid sheets ≡ printed stdin
+run-prints stdin b run = laid-sheets b run ∙ cut-same stdin

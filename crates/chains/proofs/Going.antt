@@ -23,7 +23,7 @@ use Rattle.refusals.specs.declared.Answer as code
 use Rattle.portion.proofs.Instance.{fresh-chains, chains-listing}
 use Rattle.listing.proofs.Known.{Kept, portion-in, last-kept}
 use Rattle.listing.proofs.Telling.{listed-first, listed-fits, listed-count, listed-ended, listed-cells, listed-length}
-use Rattle.text.specs.Decimal.{worth, Digits}
+use Rattle.text.specs.Decimal.{worth, digitCount, Digits}
 use Rattle.text.specs.Lines.{chainLines, chainsAt, endLine, refusalLine, Records}
 use Rattle.text.proofs.Lining.{lines-append}
 use Rattle.text.proofs.Written.{chains-written, records-written}
@@ -88,7 +88,7 @@ module _ {file : List ℕ} {q : Question} {start : Start} {bookmark counted cell
       way-chains = rw (way-many, way-cells) (chains-written (portionFor file q start cells) (drop (length (portionFor file q start cells) * recordSize) cells) (listed-fits p said way-listing))
 
       -- forty digits are enough
-      pub way-counts : Digits counted × (worth counted + count < 10 ^ 40)
+      pub way-counts : Digits counted × (worth counted + count < 10 ^ digitCount)
       way-counts =
           let few = length-take (roomOf recordSize (length cells)) (rest file q start) in
           (k .digits, lt-of-le-of-lt (omega (arith, way-many, few, k .sum)) (count-fits file q way-asked))

@@ -2,6 +2,6 @@
 pub mod Bounded
 pub mod Going
 pub mod Heard
-pub mod Ahead
+pub mod Looking
 pub mod Putting
 pub mod Cut

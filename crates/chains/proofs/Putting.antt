@@ -1,7 +1,7 @@
--- Putting a page: its bytes are the first lines of what is left.
+-- Putting a sheet: its bytes are the first lines of what is left.
 use mathlib.Core.Path.{_≡_, refl, sym, ap, _∙_}
 use mathlib.Core.Bool.{Bool, true, false}
-use mathlib.Core.List.{List, [], _∷_, _++_, append-assoc, append-nil}
+use mathlib.Core.List.{List, [], _++_, append-assoc, append-nil}
 use Prim.Native.Nat.{ℕ, zero, suc, _+_, _-_, _≤_, _<_}
 use native.Mathlib.Omega.{arith}
 use borrow.Author.Tests.{ltb-true, ltb-false}
@@ -16,104 +16,123 @@ use Rattle.text.specs.declared.Reached as text
 use Rattle.text.proofs.Printing.{printed-length, printed-take}
 use Rattle.text.proofs.Lining.{end-some, refusal-some, lines-some, chains-split, lines-append, reach-moves}
 use Rattle.chains.specs.Program.{printed}
-use Rattle.chains.specs.Pages.{behindPortion, GoesOn, leftText, Lined, Ready, NextPage, toPrint, Begins, Run, done, next, laid}
-use Rattle.chains.specs.Inside.{Printable, LookedAhead, PutPage, leftBehind}
-use Rattle.chains.specs.declared.pages.Left as code
-use Rattle.chains.specs.declared.pages.Progress.{Progress}
-use Rattle.chains.specs.declared.pages.Put.{Put}
-use Rattle.chains.specs.declared.pages.Page.{Page}
+use Rattle.chains.specs.Sheets.{behindPortion, GoesOn, leftText, Lined, Ready, NextSheet, toPrint, Begins, Run, done, next, laid}
+use Rattle.chains.specs.Inside.{AtOnce, Printable, LookedAhead, PutSheet, sheetOf, leftBehind}
+use Rattle.chains.specs.declared.progress.Left as code
+use Rattle.chains.specs.declared.progress.Progress.{Progress}
+use Rattle.chains.specs.declared.sheets.Sheet.{Sheet}
 
--- ---- a page that is the whole text of what is left
-put-all : {counted cells : List ℕ} {left : code.Left} {text out out′ : List ℕ} {bytes : ℕ} → ((input bookmark : List ℕ) → leftText input bookmark counted cells left ≡ text) → 1 ≤ length text → Printed out 0 text out′ bytes → bytes ≤ length out → PutPage counted cells left out′ (record { bytes = bytes; left = code.the-variants.Nothing })
-put-all {text = text} {out′ = out′} {bytes = bytes} same some p h = record {
-  within = omega (arith, printed-length p);
-  text = λ input bookmark. same input bookmark ∙ sym (append-nil text) ∙ ap (λ (t : List ℕ). t ++ []) (sym (printed-take p h));
-  empty = λ e. absurd (omega (arith, p .place));
-  ready = λ input bookmark r. tt;
-}
+-- ---- a sheet that is the whole text of what is left
+module _ (cells : List ℕ) (progress : Progress) where
+  put-all : {text out out′ : List ℕ} {bytes : ℕ} {sheet : Sheet} → ((input : List ℕ) → toPrint input cells progress ≡ text) → 1 ≤ length text → Printed out 0 text out′ bytes → bytes ≤ length out
+      → sheet ≡ sheetOf progress bytes code.the-variants.Nothing → PutSheet cells progress out′ sheet
+  put-all {text} {out} {out′} {bytes} same some p h is = rw is (record {
+    next = λ input r. record {
+      within = omega (arith, printed-length p);
+      text = same input ∙ sym (append-nil text) ∙ ap (λ (t : List ℕ). t ++ []) (sym (printed-take p h));
+      empty = λ e. absurd (omega (arith, p .place));
+      ready = tt;
+    };
+  })
 
-pub put-refusal : {counted cells : List ℕ} {left : code.Left} {number place : ℕ} {out out′ : List ℕ} {bytes : ℕ} → left ≡ code.the-variants.Refusal number place → Printed out 0 (refusalLine number place) out′ bytes → bytes ≤ length out → PutPage counted cells left out′ (record { bytes = bytes; left = code.the-variants.Nothing })
-put-refusal {number = number} {place = place} is p h = put-all (λ input bookmark. rw is) (refusal-some number place) p h
+  pub put-refusal : {number place : ℕ} {out out′ : List ℕ} {bytes : ℕ} {sheet : Sheet} → progress .left ≡ code.the-variants.Refusal number place → Printed out 0 (refusalLine number place) out′ bytes → bytes ≤ length out
+      → sheet ≡ sheetOf progress bytes code.the-variants.Nothing → PutSheet cells progress out′ sheet
+  put-refusal {number} {place} left = put-all (λ input. rw left) (refusal-some number place)
 
-pub put-nothing : {counted cells : List ℕ} {left : code.Left} {out : List ℕ} → left ≡ code.the-variants.Nothing → PutPage counted cells left out (record { bytes = 0; left = left })
-put-nothing is = rw is (record { within = omega arith; text = λ input bookmark. refl; empty = λ e input bookmark. refl; ready = λ input bookmark r. tt })
-
-pub put-no-portion : (counted cells : List ℕ) {left : code.Left} {started : ℕ} → left ≡ code.the-variants.Portion started → Printable counted cells left → ⊥
-put-no-portion counted cells is ok = rw is at ok
-
-pub put-lined : (counted cells : List ℕ) {left : code.Left} {next count : ℕ} {ended : Bool} → left ≡ code.the-variants.Lines next count ended → Printable counted cells left → Lined counted cells next count ended
-put-lined counted cells is ok = rw is at ok
-
-module _ {counted cells : List ℕ} {left : code.Left} {next count : ℕ} {ended : Bool} (is : left ≡ code.the-variants.Lines next count ended) (ok : Lined counted cells next count ended) where
-  -- behind the lines up to a record
-  behind-text : (input bookmark : List ℕ) {n : ℕ} → n ≤ count → leftText input bookmark counted cells (leftBehind n count ended) ≡ chainLines (chainsAt cells n (count - n)) ++ behindPortion input bookmark (worth counted) ended
-  unfolding chainsAt chainLines
-  behind-text input bookmark {n} h = go (ltb n count) refl ended
+  -- nothing is left: no lines, no refusal, and no portion that would have to be asked for
+  pub put-nothing : {out : List ℕ} {sheet : Sheet} → ((next count : ℕ) (ended : Bool) → progress .left ≡ code.the-variants.Lines next count ended → ⊥) → ((number place : ℕ) → progress .left ≡ code.the-variants.Refusal number place → ⊥)
+      → Printable cells progress → sheet ≡ sheetOf progress 0 (progress .left) → PutSheet cells progress out sheet
+  put-nothing lines refusal ok is = rw is (record {
+    next = λ input r. record { within = omega arith; text = refl; empty = λ e. none input (progress .left) lines refusal ok; ready = r };
+  })
     where
-      go : (t : Bool) → ltb n count ≡ t → (e : Bool) → leftText input bookmark counted cells (leftBehind n count e) ≡ chainLines (chainsAt cells n (count - n)) ++ behindPortion input bookmark (worth counted) e
-      go true t e = rw t
-      go false t true = rw t
-      go false t false = let none : count - n ≡ 0 = omega (arith, ltb-false n count t) in rw (t, none)
+      none : (input : List ℕ) (left : code.Left) → ((next count : ℕ) (ended : Bool) → left ≡ code.the-variants.Lines next count ended → ⊥) → ((number place : ℕ) → left ≡ code.the-variants.Refusal number place → ⊥)
+          → AtOnce (progress .counted) cells left → leftText input (progress .bookmark) (progress .counted) cells left ≡ []
+      none input (code.the-variants.Portion started) lines refusal ok = absurd ok
+      none input (code.the-variants.Lines first count ended) lines refusal ok = absurd (lines first count ended refl)
+      none input (code.the-variants.Refusal number place) lines refusal ok = absurd (refusal number place refl)
+      none input code.the-variants.Nothing lines refusal ok = refl
 
-  behind-ready : (input bookmark : List ℕ) {n : ℕ} → n ≤ count → Ready input bookmark counted cells (code.the-variants.Lines next count ended) → Ready input bookmark counted cells (leftBehind n count ended)
-  behind-ready input bookmark {n} h r = go (ltb n count) refl ended (r .1)
-    where
-      go : (t : Bool) → ltb n count ≡ t → (e : Bool) → (e ≡ false → GoesOn input (bookmarked bookmark) bookmark counted cells) → Ready input bookmark counted cells (leftBehind n count e)
-      go true t e on = rw t (record { to = h; records = ok .records; digits = ok .digits; some = λ x. ltb-true n count t }, on)
-      go false t true on = rw t (record { to = h; records = ok .records; digits = ok .digits; some = λ x. absurd (let z : _≡_ {A = ℕ} 0 1 = cc in omega arith) }, on)
-      go false t false on = rw t (on refl)
+  pub put-lined : {next count : ℕ} {ended : Bool} → progress .left ≡ code.the-variants.Lines next count ended → Printable cells progress → Lined (progress .counted) cells next count ended
+  put-lined left ok = rw left at ok
 
-  -- the last line
-  pub put-end : {out out′ : List ℕ} {bytes : ℕ} → count ≤ next → Printed out 0 (endLine (worth counted)) out′ bytes → bytes ≤ length out → PutPage counted cells left out′ (record { bytes = bytes; left = code.the-variants.Nothing })
-  unfolding chainsAt chainLines
-  put-end h p fits = put-all (λ input bookmark. ap (leftText input bookmark counted cells) is ∙ last input bookmark ended (ok .some)) (end-some (worth counted)) p fits
-    where
-      last : (input bookmark : List ℕ) (t : Bool) → (t ≡ false → next < count) → leftText input bookmark counted cells (code.the-variants.Lines next count t) ≡ endLine (worth counted)
-      last input bookmark true some = let none : count - next ≡ 0 = omega arith in rw none
-      last input bookmark false some = absurd (omega (arith, some refl))
+  -- ---- the lines come next
+  module _ {next count : ℕ} {ended : Bool} (left : progress .left ≡ code.the-variants.Lines next count ended) (ok : Lined (progress .counted) cells next count ended) where
+    -- behind the lines up to a record
+    behind-text : (input : List ℕ) {n : ℕ} → n ≤ count
+        → leftText input (progress .bookmark) (progress .counted) cells (leftBehind n count ended) ≡ chainLines (chainsAt cells n (count - n)) ++ behindPortion input (progress .bookmark) (worth (progress .counted)) ended
+    unfolding chainsAt chainLines
+    behind-text input {n} h = go (ltb n count) refl ended
+      where
+        go : (t : Bool) → ltb n count ≡ t → (e : Bool)
+            → leftText input (progress .bookmark) (progress .counted) cells (leftBehind n count e) ≡ chainLines (chainsAt cells n (count - n)) ++ behindPortion input (progress .bookmark) (worth (progress .counted)) e
+        go true t e = rw t
+        go false t true = rw t
+        go false t false = let none : count - n ≡ 0 = omega (arith, ltb-false n count t) in rw (t, none)
 
-  -- the lines of chains
-  pub put-lines : {out out′ : List ℕ} {page : text.Reached} {left′ : code.Left} → next < count → longestLine ≤ length out → LinesReach cells next count out out′ page → left′ ≡ leftBehind (page .next) count ended → PutPage counted cells left out′ (record { bytes = page .bytes; left = left′ })
-  put-lines {out} {out′} {page} {left′} h room p l = record {
-    within = omega (arith, printed-length (p .lines), p .within);
-    text = λ input bookmark. ap (leftText input bookmark counted cells) is ∙ parts (behindPortion input bookmark (worth counted) ended) ∙ sym (ap (λ (t : List ℕ). take (page .bytes) out′ ++ t) (ap (leftText input bookmark counted cells) l ∙ behind-text input bookmark (p .to)));
-    empty = λ e. absurd (omega (arith, p .lines .place, lines-some cells next (page .next - next) (omega (arith, reach-moves p h room))));
-    ready = λ input bookmark r. rw l (behind-ready input bookmark (p .to) (rw is at r));
-  }
-    where
-      parts : (rest : List ℕ) → chainLines (chainsAt cells next (count - next)) ++ rest ≡ take (page .bytes) out′ ++ (chainLines (chainsAt cells (page .next) (count - page .next)) ++ rest)
-      parts rest =
-          let many : count - next ≡ page .next - next + (count - page .next) = omega (arith, p .from, p .to) in
-          let at : next + (page .next - next) ≡ page .next = omega (arith, p .from) in
-          let A = chainsAt cells next (page .next - next) in
-          let B = chainsAt cells (page .next) (count - page .next) in
-          rw (printed-take (p .lines) (p .within), many, chains-split cells next (page .next - next) (count - page .next), at, lines-append A B) (append-assoc (chainLines A) (chainLines B) rest)
+    behind-ready : (input : List ℕ) {n : ℕ} → n ≤ count → Ready input (progress .bookmark) (progress .counted) cells (code.the-variants.Lines next count ended)
+        → Ready input (progress .bookmark) (progress .counted) cells (leftBehind n count ended)
+    behind-ready input {n} h r = go (ltb n count) refl ended (r .1)
+      where
+        go : (t : Bool) → ltb n count ≡ t → (e : Bool) → (e ≡ false → GoesOn input (bookmarked (progress .bookmark)) (progress .bookmark) (progress .counted) cells)
+            → Ready input (progress .bookmark) (progress .counted) cells (leftBehind n count e)
+        go true t e on = rw t (record { to = h; records = ok .records; digits = ok .digits; some = λ x. ltb-true n count t }, on)
+        go false t true on = rw t (record { to = h; records = ok .records; digits = ok .digits; some = λ x. absurd (let z : _≡_ {A = ℕ} 0 1 = cc in omega arith) }, on)
+        go false t false on = rw t (on refl)
 
--- ---- looked ahead and put: the next page
-pub page-next : {input cells : List ℕ} {progress : Progress} {bookmark′ counted′ cells′ : List ℕ} {seen : code.Left} {out′ : List ℕ} {put : Put} → LookedAhead input (progress .bookmark) (progress .counted) cells (progress .left) bookmark′ counted′ cells′ seen → PutPage counted′ cells′ seen out′ put → NextPage input cells progress cells′ out′ (record { bytes = put .bytes; progress = record { left = put .left; bookmark = bookmark′; counted = counted′ } })
-page-next {input} {bookmark′ = bookmark′} a p = record {
-  within = p .within;
-  text = a .same ∙ p .text input bookmark′;
-  empty = λ e. a .same ∙ p .empty e input bookmark′;
-  ready = p .ready input bookmark′ (a .ready);
-}
+    -- the last line
+    pub put-end : {out out′ : List ℕ} {bytes : ℕ} {sheet : Sheet} → count ≤ next → Printed out 0 (endLine (worth (progress .counted))) out′ bytes → bytes ≤ length out
+        → sheet ≡ sheetOf progress bytes code.the-variants.Nothing → PutSheet cells progress out′ sheet
+    unfolding chainsAt chainLines
+    put-end h = put-all (λ input. ap (leftText input (progress .bookmark) (progress .counted) cells) left ∙ last input ended (ok .some)) (end-some (worth (progress .counted)))
+      where
+        last : (input : List ℕ) (t : Bool) → (t ≡ false → next < count) → leftText input (progress .bookmark) (progress .counted) cells (code.the-variants.Lines next count t) ≡ endLine (worth (progress .counted))
+        last input true some = let none : count - next ≡ 0 = omega arith in rw none
+        last input false some = absurd (omega (arith, some refl))
 
--- what is to be printed falls by the bytes of a page
-pub page-less : {input cells : List ℕ} {progress : Progress} {cells′ out′ : List ℕ} {page : Page} → NextPage input cells progress cells′ out′ page → (page .bytes ≡ 0 → ⊥) → length (toPrint input cells′ (page .progress)) < length (toPrint input cells progress)
-page-less {input} {cells} {progress} {cells′} {out′} {page} p some =
-    let l = ap length (p .text) ∙ length-append (take (page .bytes) out′) (toPrint input cells′ (page .progress)) in
-    let t = length-take-le (page .bytes) out′ (p .within) in
-    let b : 1 ≤ page .bytes = positive (page .bytes) some in
+    -- the lines of chains
+    pub put-lines : {out out′ : List ℕ} {reached : text.Reached} {after : code.Left} {sheet : Sheet} → next < count → longestLine ≤ length out → LinesReach cells next count out out′ reached → after ≡ leftBehind (reached .next) count ended
+        → sheet ≡ sheetOf progress (reached .bytes) after → PutSheet cells progress out′ sheet
+    put-lines {out} {out′} {reached} {after} h room p behind is = rw is (record {
+      next = λ input r. record {
+        within = omega (arith, printed-length (p .lines), p .within);
+        text = ap (leftText input (progress .bookmark) (progress .counted) cells) left ∙ parts (behindPortion input (progress .bookmark) (worth (progress .counted)) ended)
+            ∙ sym (ap (λ (t : List ℕ). take (reached .bytes) out′ ++ t) (ap (leftText input (progress .bookmark) (progress .counted) cells) behind ∙ behind-text input (p .to)));
+        empty = λ e. absurd (omega (arith, p .lines .place, lines-some cells next (reached .next - next) (omega (arith, reach-moves p h room))));
+        ready = rw behind (behind-ready input (p .to) (rw left at r));
+      };
+    })
+      where
+        parts : (rest : List ℕ) → chainLines (chainsAt cells next (count - next)) ++ rest ≡ take (reached .bytes) out′ ++ (chainLines (chainsAt cells (reached .next) (count - reached .next)) ++ rest)
+        parts rest =
+            let many : count - next ≡ reached .next - next + (count - reached .next) = omega (arith, p .from, p .to) in
+            let at : next + (reached .next - next) ≡ reached .next = omega (arith, p .from) in
+            let A = chainsAt cells next (reached .next - next) in
+            let B = chainsAt cells (reached .next) (count - reached .next) in
+            rw (printed-take (p .lines) (p .within), many, chains-split cells next (reached .next - next) (count - reached .next), at, lines-append A B) (append-assoc (chainLines A) (chainLines B) rest)
+
+-- ---- looked ahead and put: the next sheet
+pub sheet-next : {input cells : List ℕ} {progress : Progress} {cells′ : List ℕ} {seen : Progress} {out′ : List ℕ} {sheet : Sheet} → LookedAhead input cells progress cells′ seen → PutSheet cells′ seen out′ sheet → NextSheet input cells progress cells′ out′ sheet
+sheet-next {input} a p =
+    let n = p .next input (a .ready) in
+    record { within = n .within; text = a .same ∙ n .text; empty = λ e. a .same ∙ n .empty e; ready = n .ready }
+
+-- what is to be printed falls by the bytes of a sheet
+pub sheet-less : {input cells : List ℕ} {progress : Progress} {cells′ out′ : List ℕ} {sheet : Sheet} → NextSheet input cells progress cells′ out′ sheet → (sheet .bytes ≡ 0 → ⊥) → length (toPrint input cells′ (sheet .progress)) < length (toPrint input cells progress)
+sheet-less {input} {cells} {progress} {cells′} {out′} {sheet} p some =
+    let l = ap length (p .text) ∙ length-append (take (sheet .bytes) out′) (toPrint input cells′ (sheet .progress)) in
+    let t = length-take-le (sheet .bytes) out′ (p .within) in
+    let b : 1 ≤ sheet .bytes = positive (sheet .bytes) some in
     omega arith
   where
     positive : (n : ℕ) → (n ≡ 0 → ⊥) → 1 ≤ n
     positive zero no-zero = absurd (no-zero refl)
     positive (suc n) no-zero = omega arith
 
--- ---- the pages of a run from the start, laid end to end, are all that the program prints
-run-laid : {input cells : List ℕ} {progress : Progress} {pages : List (List ℕ)} → Run input cells progress pages → toPrint input cells progress ≡ laid pages
+-- ---- the sheets of a run from the start, laid end to end, are all that the program prints
+run-laid : {input cells : List ℕ} {progress : Progress} {sheets : List (List ℕ)} → Run input cells progress sheets → toPrint input cells progress ≡ laid sheets
 run-laid (done p none) = p .empty none
-run-laid (next {out′ = out′} {page = page} p run) = p .text ∙ ap (λ (t : List ℕ). take (page .bytes) out′ ++ t) (run-laid run)
+run-laid (next {out′ = out′} {sheet = sheet} p run) = p .text ∙ ap (λ (t : List ℕ). take (sheet .bytes) out′ ++ t) (run-laid run)
 
-pub laid-pages : {input cells : List ℕ} {progress : Progress} {pages : List (List ℕ)} → Begins progress → Run input cells progress pages → laid pages ≡ printed input
-laid-pages {input} {cells} b run = sym (run-laid run) ∙ b .all input cells
+pub laid-sheets : {input cells : List ℕ} {progress : Progress} {sheets : List (List ℕ)} → Begins progress → Run input cells progress sheets → laid sheets ≡ printed input
+laid-sheets {input} {cells} b run = sym (run-laid run) ∙ b .all input cells

@@ -1,39 +1,43 @@
--- The inner functions of `pages`: what they ask of their callers, and what they do. Definitions only.
+-- The inner functions of the printing: what they ask of their callers, and what they do. Definitions only.
 use mathlib.Core.Path.{_≡_}
-use mathlib.Core.List.{List, [], _++_}
+use mathlib.Core.List.{List}
 use mathlib.Core.Bool.{Bool, true, false, cond}
-use Prim.Native.Nat.{ℕ, _≤_}
-use lib.ListN.{length, take}
+use Prim.Native.Nat.{ℕ}
 use lib.Dec.{ltb}
 use Rattle.refusals.specs.Answers.{Answer, listed, refused}
-use Rattle.chains.specs.Pages.{leftText, Lined, Ready}
-use Rattle.chains.specs.declared.pages.Left as code
-use Rattle.chains.specs.declared.pages.Put.{Put}
+use Rattle.chains.specs.Sheets.{Lined, toPrint, Standing, NextSheet}
+use Rattle.chains.specs.declared.progress.Left as code
+use Rattle.chains.specs.declared.progress.Progress.{Progress}
+use Rattle.chains.specs.declared.sheets.Sheet.{Sheet}
 
 -- what is left can be printed at once: no portion has to be asked for first
-abbrev pub Printable : List ℕ → List ℕ → code.Left → Type 0
-Printable counted cells (code.the-variants.Portion started) = ⊥
-Printable counted cells (code.the-variants.Lines next count ended) = Lined counted cells next count ended
-Printable counted cells (code.the-variants.Refusal number place) = Unit {0}
-Printable counted cells code.the-variants.Nothing = Unit {0}
+abbrev pub AtOnce : List ℕ → List ℕ → code.Left → Type 0
+AtOnce counted cells (code.the-variants.Portion started) = ⊥
+AtOnce counted cells (code.the-variants.Lines next count ended) = Lined counted cells next count ended
+AtOnce counted cells (code.the-variants.Refusal number place) = Unit {0}
+AtOnce counted cells code.the-variants.Nothing = Unit {0}
+
+abbrev pub Printable : List ℕ → Progress → Type 0
+Printable cells progress = AtOnce (progress .counted) cells (progress .left)
 
 -- looking ahead leaves what is still to be printed as it was
-pub record LookedAhead (input bookmark counted cells : List ℕ) (left : code.Left) (bookmark′ counted′ cells′ : List ℕ) (left′ : code.Left) : Type 0 where
-  pub same : leftText input bookmark counted cells left ≡ leftText input bookmark′ counted′ cells′ left′
-  pub ready : Ready input bookmark′ counted′ cells′ left′
-  pub printable : Printable counted′ cells′ left′
+pub record LookedAhead (input cells : List ℕ) (progress : Progress) (cells′ : List ℕ) (seen : Progress) : Type 0 where
+  pub same : toPrint input cells progress ≡ toPrint input cells′ seen
+  pub ready : Standing input cells′ seen
+  pub printable : Printable cells′ seen
 
--- the first lines of what is left stand at the beginning of the bytes, whatever follows them
-pub record PutPage (counted cells : List ℕ) (left : code.Left) (out′ : List ℕ) (put : Put) : Type 0 where
-  pub within : put .bytes ≤ length out′
-  pub text : (input bookmark : List ℕ) → leftText input bookmark counted cells left ≡ take (put .bytes) out′ ++ leftText input bookmark counted cells (put .left)
-  pub empty : put .bytes ≡ 0 → (input bookmark : List ℕ) → leftText input bookmark counted cells left ≡ []
-  pub ready : (input bookmark : List ℕ) → Ready input bookmark counted cells left → Ready input bookmark counted cells (put .left)
+-- a portion's answer leaves its lines, or its refusal's
+abbrev pub leftBy : Answer → code.Left
+leftBy (listed count ended) = code.the-variants.Lines 0 count ended
+leftBy (refused number place) = code.the-variants.Refusal number place
 
--- a refused portion leaves its line
-abbrev pub refusalOf : Answer → code.Left
-refusalOf (listed count ended) = code.the-variants.Nothing
-refusalOf (refused number place) = code.the-variants.Refusal number place
+-- a sheet of so many bytes, and what it leaves
+abbrev pub sheetOf : Progress → ℕ → code.Left → Sheet
+sheetOf progress bytes left = record { bytes = bytes; progress = record { left = left; bookmark = progress .bookmark; counted = progress .counted } }
+
+-- the first lines of what is left are the next sheet, whatever the input that they stand for
+pub record PutSheet (cells : List ℕ) (progress : Progress) (out′ : List ℕ) (sheet : Sheet) : Type 0 where
+  pub next : (input : List ℕ) → Standing input cells progress → NextSheet input cells progress cells out′ sheet
 
 -- behind the lines up to a record come the other lines; behind all, the last line or the next portion
 abbrev pub behindAll : ℕ → ℕ → Bool → code.Left

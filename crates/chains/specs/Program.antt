@@ -55,13 +55,21 @@ printed input =
     cond (ltb (length input) questionSize) (refusalLine 19 0)
     (textFor (askedFault (drop questionSize input) (questionIn input)) (listingFor (drop questionSize input) (questionIn input)) 0)
 
+-- no file has more than 53,348 bytes: one byte more tells that a file is too long
+abbrev pub longestFile : ℕ
+longestFile = 53348
+
 -- "Of a longer input it takes 28 + 53,349 bytes": what is printed for what stands on standard input. The cut changes nothing, whatever
 -- follows: the law `cut-same` of proofs/Cut.
 abbrev pub longestInput : ℕ
-longestInput = questionSize + 53349
+longestInput = questionSize + (longestFile + 1)
 
 abbrev pub printedFor : List ℕ → List ℕ
 printedFor stdin = printed (take longestInput stdin)
+
+-- the program asks for so many chains at a time
+abbrev pub portionSize : ℕ
+portionSize = 4096
 
 -- "which 3 refuses unless 1 or 2 does"
 abbrev pub longRefusal : List ℕ → ℕ

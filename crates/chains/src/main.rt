@@ -1,12 +1,15 @@
 // Lists every chain that a question finds in a file: both come on standard input, the lines go to standard output.
 //
-// Nothing is decided here: `pages` makes what is printed, a page at a time, and its promise names every byte of it (specs/Pages). What
-// is left is to read, and to write each page before the next one is made: no contract can say that. It streams, in fixed memory: a
-// portion of 4,096 chains is printed before the next one is asked for. A write that fails, as to a closed pipe, ends it.
+// Nothing is decided here: `sheets` makes what is printed, a sheet at a time, and its promise names every byte of it (specs/Sheets). What
+// is left is to read, and to write each sheet before the next one is made: no contract can say that. It streams, in fixed memory: a
+// portion is printed before the next one is asked for. A write that fails, as to a closed pipe, ends it.
+mod ahead;
 mod onward;
-mod pages;
+mod progress;
 mod reading;
+mod sheets;
 
+use crate::reading::QUESTION;
 use libc::STDIN_FILENO;
 use libc::STDOUT_FILENO;
 use ways::RECORD;
@@ -15,41 +18,45 @@ ghost use Prim.Native.Nat.{_*_, _≤_};
 ghost use lib.ListN.{length};
 ghost use Rattle.ways.specs.Sizes.{recordSize};
 ghost use Rattle.text.specs.Printed.{longestLine};
-ghost use Rattle.chains.specs.Program.{longestInput};
+ghost use Rattle.chains.specs.Program.{longestInput, portionSize};
 
-// 28 bytes of question and at most 53,348 bytes of file; one byte more tells that a file is too long.
-const LIMIT: usize = 53_377;
-// The cells of a portion: 4,096 chains.
-const CELLS: usize = 4_096 * RECORD;
+// The most bytes of a file.
+const LONGEST_FILE: usize = 53_348;
+// One byte more tells that a file is too long.
+const LONGEST_INPUT: usize = QUESTION + LONGEST_FILE + 1;
+// The chains of a portion, and their cells.
+const PORTION: usize = 4_096;
+
+const CELLS: usize = PORTION * RECORD;
 
 // Zeros for the input, and for the records of a portion. The `ensures` gives the length, which lending them as a slice needs.
-fn input_space() -> [u8; LIMIT]
+fn input_space() -> [u8; LONGEST_INPUT]
     ensures { λ r. ⌜ longestInput ≡ length r ⌝ }
 {
-    [0; LIMIT]
+    [0; LONGEST_INPUT]
 }
 
 fn record_space() -> [u32; CELLS]
-    ensures { λ r. ⌜ 4096 * recordSize ≡ length r ⌝ }
+    ensures { λ r. ⌜ portionSize * recordSize ≡ length r ⌝ }
 {
     [0; CELLS]
 }
 
-// Page by page, until one is empty: then nothing is left.
+// Sheet by sheet, until one is empty: then nothing is left.
 fn print(input: &[u8], cells: &mut [u32], out: &mut [u8])
     requires { ⌜ (recordSize ≤ length (now cells)) × (longestLine ≤ length (now out)) ⌝ }
 {
-    let mut progress = pages::begin();
+    let mut progress = progress::begin();
     loop {
-        let page = pages::next_page(input, progress, cells, out);
-        let bytes = page.bytes;
+        let sheet = sheets::next_sheet(input, progress, cells, out);
+        let bytes = sheet.bytes;
         if bytes == 0 {
             return;
         }
         if !io::write_all(STDOUT_FILENO, &out[..bytes]) {
             return;
         }
-        let after = page.progress;
+        let after = sheet.progress;
         progress = after;
     }
 }

@@ -48,7 +48,7 @@ digits-set ds i d all h = record { long = length-set ds i d ∙ all .long; each 
 -- ---- counting on: the digits below i are done, and the carry still goes to the others
 pub record CountingOn (counted₀ : List ℕ) (more : ℕ) (counted : List ℕ) (carry i : ℕ) : Type 0 where
   pub digits : Digits counted
-  pub within : i ≤ 40
+  pub within : i ≤ digitCount
   pub small : carry < 2 ^ 64
   pub right : above (take i counted) (worth (drop i counted) + carry) ≡ worth counted₀ + more
 
@@ -57,10 +57,10 @@ unfolding above
 on-starts d f = record { digits = d; within = omega arith; small = f; right = refl }
 
 module _ {counted₀ : List ℕ} {more : ℕ} {counted : List ℕ} {carry i : ℕ} (k : CountingOn counted₀ more counted carry i) where
-  pub on-digit : i < 40 → getD counted i 0 < 10
+  pub on-digit : i < digitCount → getD counted i 0 < 10
   on-digit h = k .digits .each i h
 
-  pub on-turn : i < 40 → CountingOn counted₀ more (set counted i ((getD counted i 0 + carry % 10) % 10)) (carry / 10 + (getD counted i 0 + carry % 10) / 10) (i + 1)
+  pub on-turn : i < digitCount → CountingOn counted₀ more (set counted i ((getD counted i 0 + carry % 10) % 10)) (carry / 10 + (getD counted i 0 + carry % 10) / 10) (i + 1)
   on-turn h =
       let d = getD counted i 0 in
       let sum = d + carry % 10 in
@@ -76,7 +76,7 @@ module _ {counted₀ : List ℕ} {more : ℕ} {counted : List ℕ} {carry i : �
         right = rw (add-one, take-suc-set counted i (sum % 10) inside, drop-set-lt (suc i) counted i (sum % 10) (omega arith), above-one (take i counted) (sum % 10) (w + (carry / 10 + sum / 10)), same) (k .right);
       }
 
-  pub on-ends : 40 ≤ i → worth counted₀ + more < 10 ^ 40 → worth counted ≡ worth counted₀ + more
+  pub on-ends : digitCount ≤ i → worth counted₀ + more < 10 ^ digitCount → worth counted ≡ worth counted₀ + more
   unfolding worth
   on-ends h small =
       let e : i ≡ length counted = omega (arith, k .digits .long, k .within) in
@@ -89,7 +89,7 @@ module _ {counted₀ : List ℕ} {more : ℕ} {counted : List ℕ} {carry i : �
 
 -- ---- the first digit that is no zero
 pub record Seeking (counted : List ℕ) (i : ℕ) : Type 0 where
-  pub within : i < 40
+  pub within : i < digitCount
   pub zeros : worth (drop (i + 1) counted) ≡ 0
 
 pub seek-starts : {counted : List ℕ} → Digits counted → Seeking counted 39
@@ -107,7 +107,7 @@ unfoldable pub down : ℕ → List ℕ → List ℕ
 down zero counted = []
 down (suc i) counted = (48 + getD counted i 0) ∷ down i counted
 
-module _ (counted : List ℕ) (all : Digits counted) (r : ℕ) (within : r < 40) (zeros : worth (drop (r + 1) counted) ≡ 0) (first : (r ≡ 0) ⊎ (0 < getD counted r 0)) where
+module _ (counted : List ℕ) (all : Digits counted) (r : ℕ) (within : r < digitCount) (zeros : worth (drop (r + 1) counted) ≡ 0) (first : (r ≡ 0) ⊎ (0 < getD counted r 0)) where
   inside : (j : ℕ) → j ≤ r → j < length counted
   inside j h = omega (arith, all .long)
 
@@ -159,7 +159,7 @@ module _ {counted out₀ : List ℕ} {at first : ℕ} {out : List ℕ} {i next :
   unfolding down
   count-ends h = let e : i ≡ 0 = omega arith in done (rw e at (k .printing))
 
-  pub count-room : at + 40 ≤ length out₀ → first ≤ 40 → 0 < i → next < length out
+  pub count-room : at + digitCount ≤ length out₀ → first ≤ digitCount → 0 < i → next < length out
   count-room fits few up = omega (arith, k .room, count-bytes)
 
 -- ---- nothing counted yet

@@ -3,6 +3,7 @@ use borrow.Author.Needs.{needs}
 use native.Mathlib.Omega.{arith}
 use Prim.Native.Nat.{_-_}
 use Rattle.text.proofs.Counting.{CountingOn, on-starts, on-digit, on-turn, on-ends}
+use Rattle.text.specs.Decimal.{digitCount}
 use Rattle.text.proofs.counts.count_on.Statement.{statement}
 use Rattle.text.proofs.counts.count_on.Tie as tie
 
@@ -10,7 +11,7 @@ abbrev Inv-loop : tie.InvT-loop
 Inv-loop counted₀ more carry₀ i₀ counted carry i = CountingOn counted₀ more counted carry i
 
 abbrev μ-loop : tie.MeasureT-loop
-μ-loop counted₀ more carry₀ i₀ counted carry i = 40 - i
+μ-loop counted₀ more carry₀ i₀ counted carry i = digitCount - i
 
 loop-holds : tie.Need-loop-holds Inv-loop μ-loop
 loop-holds c = on-starts (c .pre .0) (search needs)

@@ -1,4 +1,4 @@
--- What is printed, page by page: what is still to be printed. Definitions only.
+-- What is printed, sheet by sheet: what is still to be printed. Definitions only.
 use mathlib.Core.Path.{_≡_}
 use mathlib.Core.List.{List, [], _∷_, _++_}
 use mathlib.Core.Bool.{Bool, true, false, cond}
@@ -11,9 +11,9 @@ use Rattle.text.specs.Decimal.{worth, Digits}
 use Rattle.text.specs.Lines.{chainLines, chainsAt, endLine, refusalLine, Records}
 use Rattle.chains.specs.Program.{questionSize, questionIn, printed}
 use Rattle.chains.specs.Onward.{toCome, OnTheWay}
-use Rattle.chains.specs.declared.pages.Left as code
-use Rattle.chains.specs.declared.pages.Progress.{Progress}
-use Rattle.chains.specs.declared.pages.Page.{Page}
+use Rattle.chains.specs.declared.progress.Left as code
+use Rattle.chains.specs.declared.progress.Progress.{Progress}
+use Rattle.chains.specs.declared.sheets.Sheet.{Sheet}
 
 -- what is still to be printed from a start on, where so many chains were printed before: a short input is refused
 abbrev pub fromStart : List ℕ → Start → ℕ → List ℕ
@@ -62,20 +62,20 @@ pub record Begins (progress : Progress) : Type 0 where
   pub ready : (input cells : List ℕ) → recordSize ≤ length cells → Standing input cells progress
   pub all : (input cells : List ℕ) → toPrint input cells progress ≡ printed input
 
--- a page: what was to be printed before is its bytes, and then what is to be printed after it; it is empty only where nothing is left
-pub record NextPage (input cells : List ℕ) (progress : Progress) (cells′ out′ : List ℕ) (page : Page) : Type 0 where
-  pub within : page .bytes ≤ length out′
-  pub text : toPrint input cells progress ≡ take (page .bytes) out′ ++ toPrint input cells′ (page .progress)
-  pub empty : page .bytes ≡ 0 → toPrint input cells progress ≡ []
-  pub ready : Standing input cells′ (page .progress)
+-- a sheet: what was to be printed before is its bytes, and then what is to be printed after it; it is empty only where nothing is left
+pub record NextSheet (input cells : List ℕ) (progress : Progress) (cells′ out′ : List ℕ) (sheet : Sheet) : Type 0 where
+  pub within : sheet .bytes ≤ length out′
+  pub text : toPrint input cells progress ≡ take (sheet .bytes) out′ ++ toPrint input cells′ (sheet .progress)
+  pub empty : sheet .bytes ≡ 0 → toPrint input cells progress ≡ []
+  pub ready : Standing input cells′ (sheet .progress)
 
--- a run of calls, each from where the one before it left off, until a page is empty: the pages
+-- a run of calls, each from where the one before it left off, until a sheet is empty: the sheets
 pub data Run (input : List ℕ) : List ℕ → Progress → List (List ℕ) → Type 0 where
-  done : {cells : List ℕ} {progress : Progress} {cells′ out′ : List ℕ} {page : Page} → NextPage input cells progress cells′ out′ page → page .bytes ≡ 0 → Run input cells progress []
-  next : {cells : List ℕ} {progress : Progress} {cells′ out′ : List ℕ} {page : Page} {pages : List (List ℕ)} → NextPage input cells progress cells′ out′ page
-      → Run input cells′ (page .progress) pages → Run input cells progress (take (page .bytes) out′ ∷ pages)
+  done : {cells : List ℕ} {progress : Progress} {cells′ out′ : List ℕ} {sheet : Sheet} → NextSheet input cells progress cells′ out′ sheet → sheet .bytes ≡ 0 → Run input cells progress []
+  next : {cells : List ℕ} {progress : Progress} {cells′ out′ : List ℕ} {sheet : Sheet} {sheets : List (List ℕ)} → NextSheet input cells progress cells′ out′ sheet
+      → Run input cells′ (sheet .progress) sheets → Run input cells progress (take (sheet .bytes) out′ ∷ sheets)
 
--- the pages laid end to end
+-- the sheets laid end to end
 abbrev pub laid : List (List ℕ) → List ℕ
 laid [] = []
-laid (page ∷ pages) = page ++ laid pages
+laid (sheet ∷ sheets) = sheet ++ laid sheets
