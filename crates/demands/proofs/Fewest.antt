@@ -1,4 +1,4 @@
--- The answered fewest hops are the customer's: the ways of his words are the walks over the graph of the admitted links.
+-- The answered fewest hops are the customer's: the ways of the customer's words are the walks over the graph of the admitted links.
 use mathlib.Core.Path.{_≡_, refl, sym, _∙_}
 use mathlib.Core.List.{List, [], _∷_}
 use Prim.Native.Nat.{ℕ, _≤_}

@@ -1,4 +1,4 @@
--- The customer's three demands, one statement each. Each of his sentences stands word for word above the one field that says it; the first two
+-- The customer's three demands, one statement each. Each of the customer's sentences stands word for word above the one field that says it; the first two
 -- of demand 3 say what is given, which is a `Run`. Fields that no sentence stands above say more: what follows, what the operations write, and the
 -- same after bookmarks and of held listings. Definitions only; proofs/Demands proves them.
 use mathlib.Core.Path.{_≡_}

@@ -1,12 +1,11 @@
 -- Calls of one held listing, one after another, on one file. Definitions only.
 -- What a call wrote, the rooms together, and demand 3 itself are those of any listing (listing, specs/EndToEnd).
 use mathlib.Core.Path.{_≡_}
-use mathlib.Core.Bool.{true}
 use mathlib.Core.List.{List, [], _∷_}
 use Prim.Native.Nat.{ℕ, _≤_}
 use lib.ListN.{length}
 use Rattle.ways.specs.Sizes.{recordSize}
-use Rattle.refusals.specs.Answers.{listed, refused, answerSaid}
+use Rattle.refusals.specs.Answers.{refused, answerSaid}
 use Rattle.listing.specs.EndToEnd.{Call}
 use Rattle.refusals.specs.declared.Answer as code
 use Rattle.held.specs.declared.Held.{Held}

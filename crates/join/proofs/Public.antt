@@ -5,8 +5,7 @@ use mathlib.Core.Logic.{⊎-elim}
 use Prim.Native.Nat.{ℕ, _<_}
 use lib.ListN.{length}
 use native.Mathlib.Omega.{arith}
-use Rattle.refusals.specs.Faults.{Fault, sound, fault, firstOf}
-use Rattle.refusals.specs.Answers.{roomFault}
+use Rattle.refusals.specs.Faults.{sound, fault}
 use Rattle.refusals.specs.declared.Answer as code
 use Rattle.refusals.proofs.Room.{room-refuses, room-passes, room-left}
 use Rattle.format.specs.Format.{personCount}

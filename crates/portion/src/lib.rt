@@ -30,11 +30,14 @@ pub fn portion(
     if let Fault::At(number, place) = question::asked_room(file, question, out.len()) {
         return Answer::Refused { number, place };
     }
-    listed(file, question, started, bookmark, out)
+    // Two calls, so that the compiler does not lay it in here: a refusal takes no stack for the graph and the search.
+    if started == 0 {
+        return listed(file, question, 0, bookmark, out);
+    }
+    listed(file, question, 1, bookmark, out)
 }
 
-// The same where the file, the question and the output have passed. The compiler lays it into its caller, so a refusal before it
-// takes the stack of its graph and table too.
+// The same where the file, the question and the output have passed.
 fn listed(
     file: &[u8],
     question: Question,

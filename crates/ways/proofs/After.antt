@@ -88,7 +88,7 @@ less-not-behind : {x y : ℕ} {b w : List ℕ} → y < x → ¬ Before (x ∷ b)
 less-not-behind l (less i) = omega arith
 less-not-behind l (same e i) = omega arith
 
--- what goes on with v, who stands before the bookmark's next person, or behind him
+-- what goes on with v, who stands before the bookmark's next person, or behind that person
 pub after-before : (x v : ℕ) (b : List ℕ) (ws : List (List ℕ)) → v < x → after (x ∷ b) (map (_∷_ v) ws) ≡ []
 after-before x v b ws h = after-none (x ∷ b) (map (_∷_ v) ws) (λ c m. let r = Memᴰ·of-map (_∷_ v) ws m in λ q. less-not-behind h (subst (λ d. Before (x ∷ b) d) (sym (r .2)) q))
 

@@ -121,7 +121,7 @@ module _ (g : Graph) (t : ℕ) where
       go (yes l) = in-fewest k l (link m (fewest-up-to k v .reach (omega arith)))
       go (no n) = let c = fewest-cap k u in omega arith
 
-  -- the rounds of a table: whoever is left over when a person next to him has h hops has one more; and nobody has his number otherwise
+  -- the rounds of a table: whoever is left over when a person next to them has h hops has one more; and nobody has that number otherwise
   pub fewest-suc : (k h p v : ℕ) → v ∈ g p → fewest g t k v ≡ h → h < fewest g t k p → fewest g t k p ≡ suc h
   fewest-suc k h p v m e l = omega (arith, fewest-link k p v m)
 

@@ -82,7 +82,7 @@ exact g s t k ne c = (λ m. to (Memᴰ·of-map (_∷_ s) (ways g t k (s ∷ []) 
         Memᴰ·cast (ap (λ x. x ∷ q ∷ w) (h .first)) (Memᴰ·map (_∷_ s) (way-in (rest-way k s (s ∷ []) (q ∷ w)
         (record { linked = (subst (λ x. q ∈ g x) (h .first) (h .linked .0), h .linked .1); last = h .last; once = h .once .1; apart = λ x a j. h .once .0 (Memᴰ·cast (h .first ∙ sym (List·Memᴰ·eq-of-singleton j)) a); few = h .few }))))
 
--- nobody has a chain to himself
+-- no person has a chain to the same person
 pub no-chain : (g : Graph) (s k : ℕ) (c : List ℕ) → ¬ Chain g s s k c
 no-chain g s k [] h = h .first
 no-chain g s k (p ∷ []) h = omega arith

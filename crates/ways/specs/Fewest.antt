@@ -28,7 +28,7 @@ abbrev pub lowest : ℕ → List ℕ → ℕ
 lowest cap [] = cap
 lowest cap (d ∷ ds) = min d (lowest cap ds)
 
--- the same as a number that can be computed: To itself answers 0, another one more than the lowest over his links
+-- the same as a number that can be computed: To itself answers 0, another one more than the lowest over that person's links
 unfoldable pub fewest : Graph → ℕ → ℕ → ℕ → ℕ
 fewest g t zero p = cond (eqb p t) 0 1
 fewest g t (suc k) p = cond (eqb p t) 0 (suc (lowest (suc k) (map (fewest g t k) (g p))))

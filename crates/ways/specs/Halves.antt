@@ -30,7 +30,7 @@ extends g p [] = false
 extends g p (q ∷ h) = cond (among q (g p)) (cond (among p (q ∷ h)) false true) false
 
 -- "Half chains are built by a recursion on their hops": those of exactly j hops, in dictionary order.
--- (To) alone has no hop; for one hop more, each person but From is put in front of those before whom he may stand.
+-- (To) alone has no hop; for one hop more, each person but From is put in front of those before whom that person may stand.
 unfoldable pub halfChains : Graph → ℕ → ℕ → ℕ → ℕ → List (List ℕ)
 halfChains g n s t zero = (t ∷ []) ∷ []
 halfChains g n s t (suc j) = flatMap (λ p. cond (eqb p s) [] (map (_∷_ p) (keep (extends g p) (halfChains g n s t j)))) (personsBelow n)

@@ -1,5 +1,5 @@
 -- The listing, as a list that can be computed. Definitions only.
--- It is the customer's list: `exact`, `ordered` and `determined` in proofs/ tie it to his words.
+-- It is the customer's list: `exact`, `ordered` and `determined` in proofs/ tie it to the customer's words.
 use mathlib.Core.Bool.{cond}
 use mathlib.Core.List.{List, [], _∷_, map, flatMap}
 use Prim.Native.Nat.{ℕ, zero, suc}

@@ -1,5 +1,5 @@
 -- `fit` meets its contract: each test in its turn.
-use mathlib.Core.Path.{_≡_, sym, _∙_}
+use mathlib.Core.Path.{_≡_}
 use mathlib.Core.Logic.{⊎-elim}
 use mathlib.Core.Bool.{_&&_}
 use lib.Dec.{leb}
