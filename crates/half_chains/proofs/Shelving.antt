@@ -23,13 +23,13 @@ use Rattle.compact.specs.Compact.{persons, graphOf}
 use Rattle.pages.specs.Pages.{Page, emits, blank, recordWith}
 use Rattle.pages.specs.declared.HandedOver.{HandedOver}
 use Rattle.pages.proofs.Handing.{emits-append, emits-more, emits-counted}
-use Rattle.half_chains.specs.Pages.{page}
-use Rattle.half_chains.specs.Traces.{endingAt, placeOf, Going, Extended}
+use Rattle.traces.specs.Pages.{page}
+use Rattle.traces.specs.Traces.{endingAt, placeOf, Going, Extended}
 use Rattle.half_chains.specs.Shelf.{nothing, Begin, Begun, halvesFrom, halvesBelow, First, Firsts, halvesOf, shelfOf, fromMarked, Shelve, Shelved, fromOne, waysOf, Gather, Gathered}
-use Rattle.half_chains.specs.declared.traces.Sought.{Sought}
-use Rattle.half_chains.specs.declared.traces.Trace.{Trace}
-use Rattle.half_chains.proofs.Turns.{Over, over-all, turn-next, turn-end}
-use Rattle.half_chains.proofs.Steps.{unmarked, taken}
+use Rattle.half_chains.specs.declared.sought.Sought.{Sought}
+use Rattle.traces.specs.declared.trace.Trace.{Trace}
+use Rattle.traces.proofs.Turns.{Over, over-all, turn-next, turn-end}
+use Rattle.traces.proofs.Steps.{unmarked, taken}
 
 -- ---- `begin`
 

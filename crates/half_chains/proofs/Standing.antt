@@ -24,12 +24,12 @@ use Rattle.ways.proofs.Onward.{onward-from, halfChains-onward}
 use Rattle.compact.specs.Compact.{persons, graphOf}
 use Rattle.compact.specs.Marks.{Marked}
 use Rattle.compact.proofs.Marking.{marked-more}
-use Rattle.half_chains.specs.Traces.{restOf, restsOf, placeOf, indexedAt, rightsOf, Indexed}
+use Rattle.traces.specs.Traces.{restOf, restsOf, placeOf, indexedAt, rightsOf, Indexed}
 use Rattle.half_chains.specs.Shelf.{Seeking, halvesFrom, halvesBelow, halvesOf, shelfOf, halvesBefore}
-use Rattle.half_chains.specs.declared.traces.Sought.{Sought}
-use Rattle.half_chains.proofs.Turns.{further}
+use Rattle.half_chains.specs.declared.sought.Sought.{Sought}
+use Rattle.traces.proofs.Turns.{further}
 use Rattle.half_chains.proofs.Shelving.{below-next, shelf-next}
-use Rattle.half_chains.proofs.Meeting.{flatMap-same, following-onward, startingAt}
+use Rattle.traces.proofs.Meeting.{flatMap-same, following-onward, startingAt}
 
 -- ---- those that start at a person
 

@@ -1,4 +1,2 @@
--- What the functions of this room ask, and what they do: records, the recursion, and writing and gathering. Definitions only.
-pub mod Pages
-pub mod Traces
+-- What writing the half chains and gathering the chains ask, and what they do. Definitions only.
 pub mod Shelf

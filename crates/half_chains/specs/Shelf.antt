@@ -13,10 +13,10 @@ use Rattle.ways.specs.Sizes.{recordSize, mostHops}
 use Rattle.compact.specs.Compact.{persons, graphOf, Compact}
 use Rattle.pages.specs.Pages.{emits, blank, recordWith}
 use Rattle.pages.specs.declared.HandedOver.{HandedOver}
-use Rattle.half_chains.specs.Pages.{page}
-use Rattle.half_chains.specs.Traces.{endingAt, placeOf, rightsOf, Indexed, following, taking}
-use Rattle.half_chains.specs.declared.traces.Sought.{Sought}
-use Rattle.half_chains.specs.declared.traces.Trace.{Trace}
+use Rattle.traces.specs.Pages.{page}
+use Rattle.traces.specs.Traces.{endingAt, placeOf, rightsOf, Indexed, following, taking}
+use Rattle.half_chains.specs.declared.sought.Sought.{Sought}
+use Rattle.traces.specs.declared.trace.Trace.{Trace}
 
 -- chains are sought in a compact graph of so many persons: whoever is none of them has no links
 pub record Seeking (rows targets : List ℕ) (sought : Sought) : Type 0 where

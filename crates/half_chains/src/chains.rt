@@ -1,12 +1,12 @@
 // The chains: of 1, 2, .. hops, by their left halves, each with its right halves.
 ghost use Rattle.half_chains.specs.Shelf.{Gather, Gathered};
-use crate::traces::Sought;
-use crate::traces::Trace;
-use crate::traces::WRITE;
+use crate::sought::Sought;
+use crate::sought::WRITE;
 use compact::LINKS;
 use compact::PERSONS;
 use compact::STARTS;
 use pages::HandedOver;
+use traces::trace::Trace;
 use ways::RECORD;
 
 // Hands over the chains that are sought, shorter first, while there is room.
@@ -42,7 +42,7 @@ pub fn gather(
             left: left,
             last: from,
         };
-        got = crate::extend::extend(
+        got = traces::extend::extend(
             rows,
             targets,
             halves,

@@ -1,11 +1,11 @@
 // The half chains, from each number of hops and each first person in turn: counted, or written with the index of them.
 ghost use Rattle.half_chains.specs.Shelf.{Begin, Begun, Shelve, Shelved, First, Firsts};
-use crate::traces::Sought;
-use crate::traces::Trace;
+use crate::sought::Sought;
 use compact::LINKS;
 use compact::PERSONS;
 use compact::STARTS;
 use pages::HandedOver;
+use traces::trace::Trace;
 use ways::RECORD;
 
 // The half chains that begin with the last person of the trace, who is also its first. From is marked: none begins with that
@@ -30,7 +30,7 @@ fn begin(
     let mut chain = [0u32; RECORD];
     chain[1] = p as u32;
     marks[p] = true;
-    let got = crate::extend::extend(
+    let got = traces::extend::extend(
         rows,
         targets,
         &halves,

@@ -26,13 +26,13 @@ use Rattle.compact.proofs.Marking.{nobody, marked-more}
 use Rattle.pages.specs.Pages.{Page, emits, blank, recordWith}
 use Rattle.pages.specs.declared.HandedOver.{HandedOver}
 use Rattle.join.specs.Answers.{halvesIn, JoinsIn}
-use Rattle.half_chains.specs.Pages.{page}
-use Rattle.half_chains.specs.Traces.{placeOf, rightsOf}
+use Rattle.traces.specs.Pages.{page}
+use Rattle.traces.specs.Traces.{placeOf, rightsOf}
 use Rattle.half_chains.specs.Shelf.{Seeking, nothing, shelfOf, fromMarked, Shelve, Shelved, fromOne, waysOf, Gather, Gathered}
-use Rattle.half_chains.specs.declared.traces.Sought.{Sought}
+use Rattle.half_chains.specs.declared.sought.Sought.{Sought}
 use Rattle.refusals.specs.declared.Answer as code
 use Rattle.half_chains.proofs.Shelving.{shorter-from}
-use Rattle.half_chains.proofs.Meeting.{meet-all}
+use Rattle.traces.proofs.Meeting.{meet-all}
 use Rattle.pages.proofs.Recording.{records-blank, records-first}
 use Rattle.pages.proofs.Handing.{emits-cells, emits-noted, emits-written}
 use Rattle.half_chains.proofs.Standing.{all-halves, all-fit, rights-index, indexed-halves}

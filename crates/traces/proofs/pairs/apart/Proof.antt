@@ -2,9 +2,9 @@
 use borrow.Author.Needs.{needs}
 use native.Mathlib.Omega.{arith}
 use Prim.Native.Nat.{_-_}
-use Rattle.half_chains.proofs.Steps.{Looking, look-start, look-person, look-marked, look-on, look-end}
-use Rattle.half_chains.proofs.pairs.apart.Statement.{statement}
-use Rattle.half_chains.proofs.pairs.apart.Tie as tie
+use Rattle.traces.proofs.Steps.{Looking, look-start, look-person, look-marked, look-on, look-end}
+use Rattle.traces.proofs.pairs.apart.Statement.{statement}
+use Rattle.traces.proofs.pairs.apart.Tie as tie
 
 abbrev Inv-loop : tie.InvT-loop
 Inv-loop halves marks from count i₀ i = Looking halves marks from count i

@@ -15,10 +15,10 @@ use Rattle.ways.proofs.Members.{keep-append}
 use Rattle.compact.specs.Compact.{persons, graphOf}
 use Rattle.pages.specs.Pages.{Page, emit, emits, recordWith}
 use Rattle.pages.specs.declared.HandedOver.{HandedOver}
-use Rattle.half_chains.specs.Pages.{page, part, Room, Handed, Ending, Ended}
-use Rattle.half_chains.specs.Traces.{clear, Persons, restOf, restsOf, placeOf, indexedAt, rightsOf, Indexed, Open, handed, Ready, Arrived, following, taking, Going, Extended}
-use Rattle.half_chains.specs.declared.traces.Trace.{Trace}
-use Rattle.half_chains.proofs.Turns.{Over, turn-on, turn-over}
+use Rattle.traces.specs.Pages.{page, part, Room, Handed, Ending, Ended}
+use Rattle.traces.specs.Traces.{clear, Persons, restOf, restsOf, placeOf, indexedAt, rightsOf, Indexed, Open, handed, Ready, Arrived, following, taking, Going, Extended}
+use Rattle.traces.specs.declared.trace.Trace.{Trace}
+use Rattle.traces.proofs.Turns.{Over, turn-on, turn-over}
 
 -- ---- `apart`: those still to be looked at decide
 

@@ -4,9 +4,9 @@ use mathlib.Core.Logic.{inl, inr}
 use mathlib.Core.Path.{sym, _∙_}
 use native.Mathlib.Omega.{arith}
 use Prim.Native.Nat.{_-_}
-use Rattle.half_chains.proofs.Steps.{Pairing, arrive-ending, arrive-ended, arrive-place, arrive-start, pair-fits, pair-persons, pair-room, pair-joined, pair-shared, arrive-end}
-use Rattle.half_chains.proofs.pairs.arrive.Statement.{statement}
-use Rattle.half_chains.proofs.pairs.arrive.Tie as tie
+use Rattle.traces.proofs.Steps.{Pairing, arrive-ending, arrive-ended, arrive-place, arrive-start, pair-fits, pair-persons, pair-room, pair-joined, pair-shared, arrive-end}
+use Rattle.traces.proofs.pairs.arrive.Statement.{statement}
+use Rattle.traces.proofs.pairs.arrive.Tie as tie
 
 abbrev Inv-loop : tie.InvT-loop
 Inv-loop halves index marks out₀ chain trace place half₀ end got₀ out half got = Pairing halves index marks out₀ chain trace end got₀ out half got

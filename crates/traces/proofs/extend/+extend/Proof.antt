@@ -4,15 +4,15 @@ use native.Mathlib.Omega.{arith}
 use borrow.Author.Tests.{not-true, not-false}
 use mathlib.Core.Logic.{inl, inr}
 use Prim.Native.Nat.{ℕ, _-_, _<_}
-use Rattle.half_chains.proofs.Steps.{Turning, extend-arrived, extend-start, extend-person, extend-going, extend-skip, extend-turn, extend-end}
+use Rattle.traces.proofs.Steps.{Turning, extend-arrived, extend-start, extend-person, extend-going, extend-skip, extend-turn, extend-end}
 use borrow.Fn.Kinds.{In}
 use borrow.Fn.PlainCycle.{Measures, is, falls, and}
-use Rattle.half_chains.proofs.extend.extend.Reads as extend
-use Rattle.half_chains.proofs.extend.extend.Kinds as extend-kinds
-use Rattle.half_chains.proofs.extend.+extend.Lts-extend as extend-lts
-use Rattle.half_chains.proofs.pairs.arrive.Reads as arrive-reads
-use Rattle.half_chains.proofs.extend.+extend.{statement}
-use Rattle.half_chains.proofs.extend.+extend.Tie.{close}
+use Rattle.traces.proofs.extend.extend.Reads as extend
+use Rattle.traces.proofs.extend.extend.Kinds as extend-kinds
+use Rattle.traces.proofs.extend.+extend.Lts-extend as extend-lts
+use Rattle.traces.proofs.pairs.arrive.Reads as arrive-reads
+use Rattle.traces.proofs.extend.+extend.{statement}
+use Rattle.traces.proofs.extend.+extend.Tie.{close}
 
 abbrev μ-extend : Measures 6 extend-kinds.ps ℕ
 μ-extend κs a = a .1 .1 .1 .1 .1 .1 .1 .0 .left

@@ -8,7 +8,7 @@ use lib.Dec.{eqb}
 use Rattle.ways.specs.Sizes.{recordSize}
 use Rattle.pages.specs.Pages.{Page, emit, recordWith}
 use Rattle.pages.specs.declared.HandedOver.{HandedOver}
-use Rattle.half_chains.specs.declared.traces.Trace.{Trace}
+use Rattle.traces.specs.declared.trace.Trace.{Trace}
 
 -- the page that was handed over so far
 abbrev pub page : HandedOver → List ℕ → Page

@@ -2,9 +2,9 @@
 use borrow.Author.Needs.{needs}
 use mathlib.Core.Path.{_∙_}
 use lib.ListN.{length-set}
-use Rattle.half_chains.proofs.Writing.{hand-full, hand-count, hand-fits, hand-behind, hand-put}
-use Rattle.half_chains.proofs.records.hand_over.Statement.{statement}
-use Rattle.half_chains.proofs.records.hand_over.Tie as tie
+use Rattle.traces.proofs.Writing.{hand-full, hand-count, hand-fits, hand-behind, hand-put}
+use Rattle.traces.proofs.records.hand_over.Statement.{statement}
+use Rattle.traces.proofs.records.hand_over.Tie as tie
 
 returns : tie.Need-returns
 returns c = hand-full (c .before .before .before .before .pre) (c .if1 .taken)

@@ -10,8 +10,8 @@ use Rattle.ways.specs.Sizes.{recordSize}
 use Rattle.compact.specs.Compact.{persons, graphOf, Compact}
 use Rattle.pages.specs.Pages.{Page, emits, recordWith}
 use Rattle.pages.specs.declared.HandedOver.{HandedOver}
-use Rattle.half_chains.specs.Pages.{page, part}
-use Rattle.half_chains.specs.declared.traces.Trace.{Trace}
+use Rattle.traces.specs.Pages.{page, part}
+use Rattle.traces.specs.declared.trace.Trace.{Trace}
 
 -- whether nobody of the persons is marked
 unfoldable pub clear : List Bool → List ℕ → Bool

@@ -1,8 +1,8 @@
 -- A sequence without a right half is handed over just if it ends at To.
 use borrow.Author.Needs.{needs}
-use Rattle.half_chains.proofs.Writing.{end-elsewhere, end-whole}
-use Rattle.half_chains.proofs.records.end.Statement.{statement}
-use Rattle.half_chains.proofs.records.end.Tie as tie
+use Rattle.traces.proofs.Writing.{end-elsewhere, end-whole}
+use Rattle.traces.proofs.records.end.Statement.{statement}
+use Rattle.traces.proofs.records.end.Tie as tie
 
 returns : tie.Need-returns
 returns c = end-elsewhere (c .before .before .before .before .pre) (c .if1 .taken)

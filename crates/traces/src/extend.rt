@@ -1,7 +1,7 @@
 // The recursion: a simple sequence is extended by exactly so many hops towards To, and then meets its right halves.
 // A half chain is such a sequence too: no hop is left for a right half, and it has to end at To itself.
-ghost use Rattle.half_chains.specs.Traces.{Going, Extended};
-use crate::traces::Trace;
+ghost use Rattle.traces.specs.Traces.{Going, Extended};
+use crate::trace::Trace;
 use compact::LINKS;
 use compact::PERSONS;
 use compact::STARTS;

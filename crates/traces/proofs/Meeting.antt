@@ -16,7 +16,7 @@ use Rattle.compact.specs.Compact.{persons, graphOf, Compact}
 use Rattle.compact.specs.Marks.{Marked}
 use Rattle.compact.proofs.Rows.{row-people}
 use Rattle.compact.proofs.Marking.{marked-more}
-use Rattle.half_chains.specs.Traces.{clear, endingAt, following, taking}
+use Rattle.traces.specs.Traces.{clear, endingAt, following, taking}
 
 -- ---- rows in parts
 

@@ -12,8 +12,8 @@ use Rattle.pages.specs.Pages.{recordWith}
 use Rattle.pages.specs.declared.HandedOver.{HandedOver}
 use Rattle.pages.proofs.Copying.{paste-set}
 use Rattle.pages.proofs.Recording.{recordWith-paste}
-use Rattle.half_chains.specs.Pages.{part, Room, Handed, Ending, Ended}
-use Rattle.half_chains.specs.declared.traces.Trace.{Trace}
+use Rattle.traces.specs.Pages.{part, Room, Handed, Ending, Ended}
+use Rattle.traces.specs.declared.trace.Trace.{Trace}
 
 -- ---- a record is put together where it lies
 

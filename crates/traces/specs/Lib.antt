@@ -1,0 +1,3 @@
+-- What the functions of this room ask, and what they do: records (Pages), and the recursion (Traces). Definitions only.
+pub mod Pages
+pub mod Traces
