@@ -22,7 +22,7 @@
  * place tells and what to do. After a refusal every lent cell is as it came.
  *
  * Stack. Nothing is allocated, and what a call takes of the stack doesn't grow with the file or the listing. A thread that calls
- * should have at least 128 KB of it: the join takes some 62 KB, also where it refuses at once (docs/MEASUREMENTS.md has the figures).
+ * should have at least 128 KB of it: the join takes some 48 KB, also where it refuses at once (docs/MEASUREMENTS.md has the figures).
  *
  * Threads. The library has no state of its own: any number of threads may call at once, each with an output, working cells and a held
  * listing of its own. Files and bookmarks are only read; the same one may be lent to all, if nobody changes it meanwhile. Who lends
