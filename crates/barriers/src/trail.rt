@@ -7,7 +7,7 @@ ghost use Rattle.barriers.specs.Trail.{heights, unwind, Restorable, Undo
 use compact::PERSONS;
 
 // Barriers are 0 to 15. An entry is the person times 16 and the old barrier: the old one lies in the lowest four bits, the person above
-// them. With twelve hops a barrier is at most 13, and 1,024 times 16 fits a cell of 16 bits.
+// them. A barrier is at most the hops and one more, and 1,024 times 16 fits a cell of 16 bits.
 const HEIGHTS: usize = 16;
 
 // Puts one barrier back. Nothing is tested: the trail holds entries of persons alone.

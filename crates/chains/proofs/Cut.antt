@@ -19,9 +19,9 @@ use Rattle.question.specs.Asked.{askedFault}
 use Rattle.portion.specs.Listing.{listingFor}
 use Rattle.text.specs.Lines.{refusalLine}
 use Rattle.chains.specs.Program.{questionSize, questionIn, textFor, printed, longestFile, longestInput, printedFor, longRefusal}
-use Rattle.chains.specs.Sheets.{Begins, Run, laid}
+use Rattle.chains.specs.Pieces.{Begins, Run, laid}
 use Rattle.chains.specs.declared.progress.Progress.{Progress}
-use Rattle.chains.proofs.Putting.{laid-sheets}
+use Rattle.chains.proofs.Putting.{laid-pieces}
 
 -- ---- a file longer than any file
 long-fault : (file : List ℕ) → longestFile < length file → fileFault file ≡ fault (longRefusal file) 0
@@ -95,6 +95,6 @@ cut-same stdin = go (leb (length stdin) longestInput) refl
     go true t = ap printed (take-all longestInput stdin (leb-true (length stdin) longestInput t))
     go false t = cut-at (longestFile + 1) stdin (omega arith) (omega (arith, leb-false (length stdin) longestInput t))
 
--- whatever stands on standard input: the sheets of a run over the bytes that are taken, laid end to end, are what is printed for it
-pub run-prints : (stdin : List ℕ) {cells : List ℕ} {progress : Progress} {sheets : List (List ℕ)} → Begins progress → Run (take longestInput stdin) cells progress sheets → laid sheets ≡ printed stdin
-run-prints stdin b run = laid-sheets b run ∙ cut-same stdin
+-- whatever stands on standard input: the pieces of a run over the bytes that are taken, laid end to end, are what is printed for it
+pub run-prints : (stdin : List ℕ) {cells : List ℕ} {progress : Progress} {pieces : List (List ℕ)} → Begins progress → Run (take longestInput stdin) cells progress pieces → laid pieces ≡ printed stdin
+run-prints stdin b run = laid-pieces b run ∙ cut-same stdin

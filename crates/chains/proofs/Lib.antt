@@ -1,4 +1,4 @@
--- Laws of this room: counts fit their digits, a portion leaves what is still to come, and what is left is put on sheets.
+-- Laws of this room: counts fit their digits, a portion leaves what is still to come, and what is left is put on pieces.
 pub mod Bounded
 pub mod Going
 pub mod Heard

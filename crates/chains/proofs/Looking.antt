@@ -15,7 +15,7 @@ use Rattle.refusals.specs.declared.Answer as answer
 use Rattle.text.specs.Decimal.{worth, Digits}
 use Rattle.chains.specs.Program.{questionSize, questionIn, asks, refused, heardIn}
 use Rattle.chains.specs.Onward.{toCome, OnTheWay, WentOn}
-use Rattle.chains.specs.Sheets.{toPrint, Lined, Ready, Standing, Begins}
+use Rattle.chains.specs.Pieces.{toPrint, Lined, Ready, Standing, Begins}
 use Rattle.chains.specs.Inside.{AtOnce, LookedAhead, leftBy}
 use Rattle.chains.specs.declared.progress.Left as code
 use Rattle.chains.specs.declared.progress.Progress.{Progress}

@@ -1,4 +1,4 @@
--- Putting a sheet: its bytes are the first lines of what is left.
+-- Putting a piece: its bytes are the first lines of what is left.
 use mathlib.Core.Path.{_≡_, refl, sym, ap, _∙_}
 use mathlib.Core.Bool.{Bool, true, false}
 use mathlib.Core.List.{List, [], _++_, append-assoc, append-nil}
@@ -16,16 +16,16 @@ use Rattle.text.specs.declared.Reached as text
 use Rattle.text.proofs.Printing.{printed-length, printed-take}
 use Rattle.text.proofs.Lining.{end-some, refusal-some, lines-some, chains-split, lines-append, reach-moves}
 use Rattle.chains.specs.Program.{printed}
-use Rattle.chains.specs.Sheets.{behindPortion, GoesOn, leftText, Lined, Ready, NextSheet, toPrint, Begins, Run, done, next, laid}
-use Rattle.chains.specs.Inside.{AtOnce, Printable, LookedAhead, PutSheet, sheetOf, leftBehind}
+use Rattle.chains.specs.Pieces.{behindPortion, GoesOn, leftText, Lined, Ready, NextPiece, toPrint, Begins, Run, done, next, laid}
+use Rattle.chains.specs.Inside.{AtOnce, Printable, LookedAhead, PutPiece, pieceOf, leftBehind}
 use Rattle.chains.specs.declared.progress.Left as code
 use Rattle.chains.specs.declared.progress.Progress.{Progress}
-use Rattle.chains.specs.declared.sheets.Sheet.{Sheet}
+use Rattle.chains.specs.declared.pieces.Piece.{Piece}
 
--- ---- a sheet that is the whole text of what is left
+-- ---- a piece that is the whole text of what is left
 module _ (cells : List ℕ) (progress : Progress) where
-  put-all : {text out out′ : List ℕ} {bytes : ℕ} {sheet : Sheet} → ((input : List ℕ) → toPrint input cells progress ≡ text) → 1 ≤ length text → Printed out 0 text out′ bytes → bytes ≤ length out
-      → sheet ≡ sheetOf progress bytes code.the-variants.Nothing → PutSheet cells progress out′ sheet
+  put-all : {text out out′ : List ℕ} {bytes : ℕ} {piece : Piece} → ((input : List ℕ) → toPrint input cells progress ≡ text) → 1 ≤ length text → Printed out 0 text out′ bytes → bytes ≤ length out
+      → piece ≡ pieceOf progress bytes code.the-variants.Nothing → PutPiece cells progress out′ piece
   put-all {text} {out} {out′} {bytes} same some p h is = rw is (record {
     next = λ input r. record {
       within = omega (arith, printed-length p);
@@ -35,13 +35,13 @@ module _ (cells : List ℕ) (progress : Progress) where
     };
   })
 
-  pub put-refusal : {number place : ℕ} {out out′ : List ℕ} {bytes : ℕ} {sheet : Sheet} → progress .left ≡ code.the-variants.Refusal number place → Printed out 0 (refusalLine number place) out′ bytes → bytes ≤ length out
-      → sheet ≡ sheetOf progress bytes code.the-variants.Nothing → PutSheet cells progress out′ sheet
+  pub put-refusal : {number place : ℕ} {out out′ : List ℕ} {bytes : ℕ} {piece : Piece} → progress .left ≡ code.the-variants.Refusal number place → Printed out 0 (refusalLine number place) out′ bytes → bytes ≤ length out
+      → piece ≡ pieceOf progress bytes code.the-variants.Nothing → PutPiece cells progress out′ piece
   put-refusal {number} {place} left = put-all (λ input. rw left) (refusal-some number place)
 
   -- nothing is left: no lines, no refusal, and no portion that would have to be asked for
-  pub put-nothing : {out : List ℕ} {sheet : Sheet} → ((next count : ℕ) (ended : Bool) → progress .left ≡ code.the-variants.Lines next count ended → ⊥) → ((number place : ℕ) → progress .left ≡ code.the-variants.Refusal number place → ⊥)
-      → Printable cells progress → sheet ≡ sheetOf progress 0 (progress .left) → PutSheet cells progress out sheet
+  pub put-nothing : {out : List ℕ} {piece : Piece} → ((next count : ℕ) (ended : Bool) → progress .left ≡ code.the-variants.Lines next count ended → ⊥) → ((number place : ℕ) → progress .left ≡ code.the-variants.Refusal number place → ⊥)
+      → Printable cells progress → piece ≡ pieceOf progress 0 (progress .left) → PutPiece cells progress out piece
   put-nothing lines refusal ok is = rw is (record {
     next = λ input r. record { within = omega arith; text = refl; empty = λ e. none input (progress .left) lines refusal ok; ready = r };
   })
@@ -81,8 +81,8 @@ module _ (cells : List ℕ) (progress : Progress) where
         go false t false on = rw t (on refl)
 
     -- the last line
-    pub put-end : {out out′ : List ℕ} {bytes : ℕ} {sheet : Sheet} → count ≤ next → Printed out 0 (endLine (worth (progress .counted))) out′ bytes → bytes ≤ length out
-        → sheet ≡ sheetOf progress bytes code.the-variants.Nothing → PutSheet cells progress out′ sheet
+    pub put-end : {out out′ : List ℕ} {bytes : ℕ} {piece : Piece} → count ≤ next → Printed out 0 (endLine (worth (progress .counted))) out′ bytes → bytes ≤ length out
+        → piece ≡ pieceOf progress bytes code.the-variants.Nothing → PutPiece cells progress out′ piece
     unfolding chainsAt chainLines
     put-end h = put-all (λ input. ap (leftText input (progress .bookmark) (progress .counted) cells) left ∙ last input ended (ok .some)) (end-some (worth (progress .counted)))
       where
@@ -91,8 +91,8 @@ module _ (cells : List ℕ) (progress : Progress) where
         last input false some = absurd (omega (arith, some refl))
 
     -- the lines of chains
-    pub put-lines : {out out′ : List ℕ} {reached : text.Reached} {after : code.Left} {sheet : Sheet} → next < count → longestLine ≤ length out → LinesReach cells next count out out′ reached → after ≡ leftBehind (reached .next) count ended
-        → sheet ≡ sheetOf progress (reached .bytes) after → PutSheet cells progress out′ sheet
+    pub put-lines : {out out′ : List ℕ} {reached : text.Reached} {after : code.Left} {piece : Piece} → next < count → longestLine ≤ length out → LinesReach cells next count out out′ reached → after ≡ leftBehind (reached .next) count ended
+        → piece ≡ pieceOf progress (reached .bytes) after → PutPiece cells progress out′ piece
     put-lines {out} {out′} {reached} {after} h room p behind is = rw is (record {
       next = λ input r. record {
         within = omega (arith, printed-length (p .lines), p .within);
@@ -111,28 +111,28 @@ module _ (cells : List ℕ) (progress : Progress) where
             let B = chainsAt cells (reached .next) (count - reached .next) in
             rw (printed-take (p .lines) (p .within), many, chains-split cells next (reached .next - next) (count - reached .next), at, lines-append A B) (append-assoc (chainLines A) (chainLines B) rest)
 
--- ---- looked ahead and put: the next sheet
-pub sheet-next : {input cells : List ℕ} {progress : Progress} {cells′ : List ℕ} {seen : Progress} {out′ : List ℕ} {sheet : Sheet} → LookedAhead input cells progress cells′ seen → PutSheet cells′ seen out′ sheet → NextSheet input cells progress cells′ out′ sheet
-sheet-next {input} a p =
+-- ---- looked ahead and put: the next piece
+pub piece-next : {input cells : List ℕ} {progress : Progress} {cells′ : List ℕ} {seen : Progress} {out′ : List ℕ} {piece : Piece} → LookedAhead input cells progress cells′ seen → PutPiece cells′ seen out′ piece → NextPiece input cells progress cells′ out′ piece
+piece-next {input} a p =
     let n = p .next input (a .ready) in
     record { within = n .within; text = a .same ∙ n .text; empty = λ e. a .same ∙ n .empty e; ready = n .ready }
 
--- what is to be printed falls by the bytes of a sheet
-pub sheet-less : {input cells : List ℕ} {progress : Progress} {cells′ out′ : List ℕ} {sheet : Sheet} → NextSheet input cells progress cells′ out′ sheet → (sheet .bytes ≡ 0 → ⊥) → length (toPrint input cells′ (sheet .progress)) < length (toPrint input cells progress)
-sheet-less {input} {cells} {progress} {cells′} {out′} {sheet} p some =
-    let l = ap length (p .text) ∙ length-append (take (sheet .bytes) out′) (toPrint input cells′ (sheet .progress)) in
-    let t = length-take-le (sheet .bytes) out′ (p .within) in
-    let b : 1 ≤ sheet .bytes = positive (sheet .bytes) some in
+-- what is to be printed falls by the bytes of a piece
+pub piece-less : {input cells : List ℕ} {progress : Progress} {cells′ out′ : List ℕ} {piece : Piece} → NextPiece input cells progress cells′ out′ piece → (piece .bytes ≡ 0 → ⊥) → length (toPrint input cells′ (piece .progress)) < length (toPrint input cells progress)
+piece-less {input} {cells} {progress} {cells′} {out′} {piece} p some =
+    let l = ap length (p .text) ∙ length-append (take (piece .bytes) out′) (toPrint input cells′ (piece .progress)) in
+    let t = length-take-le (piece .bytes) out′ (p .within) in
+    let b : 1 ≤ piece .bytes = positive (piece .bytes) some in
     omega arith
   where
     positive : (n : ℕ) → (n ≡ 0 → ⊥) → 1 ≤ n
     positive zero no-zero = absurd (no-zero refl)
     positive (suc n) no-zero = omega arith
 
--- ---- the sheets of a run from the start, laid end to end, are all that the program prints
-run-laid : {input cells : List ℕ} {progress : Progress} {sheets : List (List ℕ)} → Run input cells progress sheets → toPrint input cells progress ≡ laid sheets
+-- ---- the pieces of a run from the start, laid end to end, are all that the program prints
+run-laid : {input cells : List ℕ} {progress : Progress} {pieces : List (List ℕ)} → Run input cells progress pieces → toPrint input cells progress ≡ laid pieces
 run-laid (done p none) = p .empty none
-run-laid (next {out′ = out′} {sheet = sheet} p run) = p .text ∙ ap (λ (t : List ℕ). take (sheet .bytes) out′ ++ t) (run-laid run)
+run-laid (next {out′ = out′} {piece = piece} p run) = p .text ∙ ap (λ (t : List ℕ). take (piece .bytes) out′ ++ t) (run-laid run)
 
-pub laid-sheets : {input cells : List ℕ} {progress : Progress} {sheets : List (List ℕ)} → Begins progress → Run input cells progress sheets → laid sheets ≡ printed input
-laid-sheets {input} {cells} b run = sym (run-laid run) ∙ b .all input cells
+pub laid-pieces : {input cells : List ℕ} {progress : Progress} {pieces : List (List ℕ)} → Begins progress → Run input cells progress pieces → laid pieces ≡ printed input
+laid-pieces {input} {cells} b run = sym (run-laid run) ∙ b .all input cells

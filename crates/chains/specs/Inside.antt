@@ -5,10 +5,10 @@ use mathlib.Core.Bool.{Bool, true, false, cond}
 use Prim.Native.Nat.{ℕ}
 use lib.Dec.{ltb}
 use Rattle.refusals.specs.Answers.{Answer, listed, refused}
-use Rattle.chains.specs.Sheets.{Lined, toPrint, Standing, NextSheet}
+use Rattle.chains.specs.Pieces.{Lined, toPrint, Standing, NextPiece}
 use Rattle.chains.specs.declared.progress.Left as code
 use Rattle.chains.specs.declared.progress.Progress.{Progress}
-use Rattle.chains.specs.declared.sheets.Sheet.{Sheet}
+use Rattle.chains.specs.declared.pieces.Piece.{Piece}
 
 -- what is left can be printed at once: no portion has to be asked for first
 abbrev pub AtOnce : List ℕ → List ℕ → code.Left → Type 0
@@ -31,13 +31,13 @@ abbrev pub leftBy : Answer → code.Left
 leftBy (listed count ended) = code.the-variants.Lines 0 count ended
 leftBy (refused number place) = code.the-variants.Refusal number place
 
--- a sheet of so many bytes, and what it leaves
-abbrev pub sheetOf : Progress → ℕ → code.Left → Sheet
-sheetOf progress bytes left = record { bytes = bytes; progress = record { left = left; bookmark = progress .bookmark; counted = progress .counted } }
+-- a piece of so many bytes, and what it leaves
+abbrev pub pieceOf : Progress → ℕ → code.Left → Piece
+pieceOf progress bytes left = record { bytes = bytes; progress = record { left = left; bookmark = progress .bookmark; counted = progress .counted } }
 
--- the first lines of what is left are the next sheet, whatever the input that they stand for
-pub record PutSheet (cells : List ℕ) (progress : Progress) (out′ : List ℕ) (sheet : Sheet) : Type 0 where
-  pub next : (input : List ℕ) → Standing input cells progress → NextSheet input cells progress cells out′ sheet
+-- the first lines of what is left are the next piece, whatever the input that they stand for
+pub record PutPiece (cells : List ℕ) (progress : Progress) (out′ : List ℕ) (piece : Piece) : Type 0 where
+  pub next : (input : List ℕ) → Standing input cells progress → NextPiece input cells progress cells out′ piece
 
 -- behind the lines up to a record come the other lines; behind all, the last line or the next portion
 abbrev pub behindAll : ℕ → ℕ → Bool → code.Left

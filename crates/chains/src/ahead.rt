@@ -8,7 +8,7 @@ use crate::reading::heard;
 use refusals::Answer;
 ghost use mathlib.Core.Path.{_≡_};
 ghost use Rattle.refusals.specs.Answers.{answerSaid};
-ghost use Rattle.chains.specs.Sheets.{Standing};
+ghost use Rattle.chains.specs.Pieces.{Standing};
 ghost use Rattle.chains.specs.Inside.{LookedAhead, leftBy};
 
 // What a portion's answer leaves to print: its lines, or its refusal's.

@@ -1,13 +1,13 @@
 // Lists every chain that a question finds in a file: both come on standard input, the lines go to standard output.
 //
-// Nothing is decided here: `sheets` makes what is printed, a sheet at a time, and its promise names every byte of it (specs/Sheets). What
-// is left is to read, and to write each sheet before the next one is made: no contract can say that. It streams, in fixed memory: a
+// Nothing is decided here: `pieces` makes what is printed, a piece at a time, and its promise names every byte of it (specs/Pieces). What
+// is left is to read, and to write each piece before the next one is made: no contract can say that. It streams, in fixed memory: a
 // portion is printed before the next one is asked for. A write that fails, as to a closed pipe, ends it.
 mod ahead;
 mod onward;
+mod pieces;
 mod progress;
 mod reading;
-mod sheets;
 
 use crate::reading::QUESTION;
 use libc::STDIN_FILENO;
@@ -42,21 +42,21 @@ fn record_space() -> [u32; CELLS]
     [0; CELLS]
 }
 
-// Sheet by sheet, until one is empty: then nothing is left.
+// Piece by piece, until one is empty: then nothing is left.
 fn print(input: &[u8], cells: &mut [u32], out: &mut [u8])
     requires { ⌜ (recordSize ≤ length (now cells)) × (longestLine ≤ length (now out)) ⌝ }
 {
     let mut progress = progress::begin();
     loop {
-        let sheet = sheets::next_sheet(input, progress, cells, out);
-        let bytes = sheet.bytes;
+        let piece = pieces::next_piece(input, progress, cells, out);
+        let bytes = piece.bytes;
         if bytes == 0 {
             return;
         }
         if !io::write_all(STDOUT_FILENO, &out[..bytes]) {
             return;
         }
-        let after = sheet.progress;
+        let after = piece.progress;
         progress = after;
     }
 }

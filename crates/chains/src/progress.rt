@@ -1,7 +1,7 @@
 // How far the printing is: what is left, and what it takes to go on.
 use text::counts::DIGITS;
 use ways::RECORD;
-ghost use Rattle.chains.specs.Sheets.{Begins};
+ghost use Rattle.chains.specs.Pieces.{Begins};
 
 // What is still to be printed.
 pub enum Left {

@@ -23,7 +23,7 @@ use Rattle.compact.specs.Compact.{persons, graphOf}
 use Rattle.pages.specs.Pages.{Page, emits, blank, recordWith}
 use Rattle.pages.specs.declared.HandedOver.{HandedOver}
 use Rattle.pages.proofs.Handing.{emits-append, emits-more, emits-counted}
-use Rattle.traces.specs.Pages.{page}
+use Rattle.traces.specs.HandingOver.{page}
 use Rattle.traces.specs.Traces.{endingAt, placeOf, Going, Extended}
 use Rattle.half_chains.specs.Shelf.{nothing, Begin, Begun, halvesFrom, halvesBelow, First, Firsts, halvesOf, shelfOf, fromMarked, Shelve, Shelved, fromOne, waysOf, Gather, Gathered}
 use Rattle.half_chains.specs.declared.sought.Sought.{Sought}

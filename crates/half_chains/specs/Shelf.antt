@@ -13,7 +13,7 @@ use Rattle.ways.specs.Sizes.{recordSize, mostHops}
 use Rattle.compact.specs.Compact.{persons, graphOf, Compact}
 use Rattle.pages.specs.Pages.{emits, blank, recordWith}
 use Rattle.pages.specs.declared.HandedOver.{HandedOver}
-use Rattle.traces.specs.Pages.{page}
+use Rattle.traces.specs.HandingOver.{page}
 use Rattle.traces.specs.Traces.{endingAt, placeOf, rightsOf, Indexed, following, taking}
 use Rattle.half_chains.specs.declared.sought.Sought.{Sought}
 use Rattle.traces.specs.declared.trace.Trace.{Trace}

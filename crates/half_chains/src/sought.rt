@@ -1,4 +1,4 @@
-// What half chains are gone through for, and between whom chains are sought.
+// What both modules of this room hand each other and their caller.
 
 // What half chains are gone through for: to be counted, or to be written.
 pub const COUNT: usize = 0;

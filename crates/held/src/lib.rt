@@ -6,10 +6,6 @@
 use question::Question;
 use refusals::Answer;
 use ways::RECORD;
-ghost use mathlib.Core.Path.{_≡_};
-ghost use Prim.Native.Nat.{_+_, _≤_};
-ghost use lib.ListN.{length, take, drop};
-ghost use Rattle.ways.specs.Sizes.{recordSize};
 ghost use Rattle.held.specs.Holding.{MovedOn};
 
 // Any number in `started` but 0 says that the listing was started; until then the record is not looked at.
@@ -36,7 +32,7 @@ pub fn moved(held: Held, file: &[u8], out: &mut [u32]) -> Outcome
         return Outcome { held, answer };
     };
     if count > 0 {
-        let record = record_at(out, (count - 1) * RECORD);
+        let record = pages::record_at(out, (count - 1) * RECORD);
         let next = Held {
             question,
             started: 1,
@@ -45,16 +41,6 @@ pub fn moved(held: Held, file: &[u8], out: &mut [u32]) -> Outcome
         return Outcome { held: next, answer };
     }
     Outcome { held, answer }
-}
-
-// The record that stands in the cells from `at` on.
-pub fn record_at(cells: &[u32], at: usize) -> [u32; RECORD]
-    requires { ⌜ at + recordSize ≤ length (now cells) ⌝ }
-    ensures { λ r. ⌜ r ≡ take recordSize (drop at (now (cells .entry))) ⌝ }
-{
-    let mut record = [0; RECORD];
-    cells::copy(&mut record, 0, cells, at, RECORD);
-    record
 }
 
 // The held listing in its own place, one portion on.

@@ -26,7 +26,7 @@ use Rattle.compact.proofs.Marking.{nobody, marked-more}
 use Rattle.pages.specs.Pages.{Page, emits, blank, recordWith}
 use Rattle.pages.specs.declared.HandedOver.{HandedOver}
 use Rattle.join.specs.Answers.{halvesIn, JoinsIn}
-use Rattle.traces.specs.Pages.{page}
+use Rattle.traces.specs.HandingOver.{page}
 use Rattle.traces.specs.Traces.{placeOf, rightsOf}
 use Rattle.half_chains.specs.Shelf.{Seeking, nothing, shelfOf, fromMarked, Shelve, Shelved, fromOne, waysOf, Gather, Gathered}
 use Rattle.half_chains.specs.declared.sought.Sought.{Sought}

@@ -79,7 +79,7 @@ pub record Laid (left : List (List ℕ)) (calls : List Call) : Type 0 where
   pub brings : Brings left calls
   pub ends : EndsRight left calls
 
--- from a fresh start the whole listing is left; and after a bookmark, whoever kept it, what stands behind its own chain
+-- calls after a bookmark, whoever kept it: what stands behind its own chain is left at the start
 pub record ResumedIn (chains : List (List ℕ)) (bookmark : List ℕ) (calls : List Call) : Type 0 where
   pub before : List (List ℕ)
   pub behind : List (List ℕ)

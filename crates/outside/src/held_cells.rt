@@ -7,10 +7,10 @@ ghost use lib.ListN.{length};
 ghost use Rattle.outside.specs.HeldCells.{heldSize, heldOf, heldCells};
 
 // The numbers of a question.
-const QUESTION: usize = 7;
+const NUMBERS: usize = 7;
 
 // The cells of a held listing.
-pub const HELD: usize = QUESTION + 1 + RECORD;
+pub const HELD: usize = NUMBERS + 1 + RECORD;
 
 // The held listing in its cells.
 pub fn held_of(lent: &[u32]) -> Held
@@ -28,8 +28,8 @@ pub fn held_of(lent: &[u32]) -> Held
     );
     Held {
         question,
-        started: lent[QUESTION],
-        record: held::record_at(lent, QUESTION + 1),
+        started: lent[NUMBERS],
+        record: pages::record_at(lent, NUMBERS + 1),
     }
 }
 
@@ -39,6 +39,6 @@ pub fn keep(lent: &mut [u32], held: Held)
     ensures { λ _. ⌜ now (lent .exit) ≡ heldCells (now (lent .entry)) held ⌝ }
 {
     let record = held.record;
-    lent[QUESTION] = held.started;
-    pages::put(lent, QUESTION + 1, record);
+    lent[NUMBERS] = held.started;
+    pages::put(lent, NUMBERS + 1, record);
 }

@@ -109,7 +109,7 @@ pub extern "C" fn kin_held(cells: &mut [u32], file: &[u8], out: &mut [u32]) -> u
     ensures { λ r. ⌜ HeldNumber (now (file .entry)) (now (cells .entry)) (now (cells .exit)) (now (out .entry)) (now (out .exit)) r ⌝ }
 {
     if cells.len() != HELD {
-        return 0x8000_0000_0000_0000;
+        return refusal_number(0, 0);
     }
     let before = held_of(cells);
     let outcome = held::advanced(before, file, out);

@@ -1,4 +1,4 @@
--- The laws that the search and the join cite.
+-- The laws of records handed over, for every room that finds chains.
 pub mod Copying
 pub mod Recording
 pub mod Handing

@@ -1,2 +1,2 @@
--- What handing over chains does, in both rooms that find them.
+-- What handing over chains does, for every room that finds them. Definitions only.
 pub mod Pages

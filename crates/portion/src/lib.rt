@@ -2,7 +2,7 @@
 //
 // The public face of the search. It refuses by number, in order: the file, the question, the output, the bookmark; a refusal
 // changes no cell. Whether a bookmark is the record of a chain of this listing is tested cell by cell and never by listing.
-// Portions laid end to end are the listing: the law stands in proofs/, over this operation's own promise.
+// It is the first instance of `listing`: portions laid end to end are the listing, by a law over this operation's own promise.
 mod bookmark;
 
 use compact::LINKS;

@@ -1,18 +1,15 @@
 -- What the refusals of a question say: the ends decide before all else, and of a question that passed its numbers are known.
-use mathlib.Core.Path.{_≡_, refl, sym, _∙_}
+use mathlib.Core.Path.{_≡_, refl}
 use mathlib.Core.Bool.{Bool, true, false, not}
-use mathlib.Core.List.{List}
 use Prim.Native.Nat.{ℕ, _<_, _≤_}
 use lib.Dec.{eqb, ltb}
-use native.Mathlib.Omega.{arith}
 use borrow.Author.Tests.{ltb-true, eqb-false, not-true}
 use Rattle.ways.specs.Sizes.{mostHops}
-use Rattle.refusals.specs.Faults.{Fault, sound, unless, firstOf, faultSaid}
-use Rattle.refusals.specs.declared.Fault as code
+use Rattle.refusals.specs.Faults.{Fault, sound, unless, firstOf}
 use Rattle.refusals.proofs.Faults.{unless-none}
 use Rattle.format.specs.Numbers.{within}
 use Rattle.format.proofs.Counted.{within-facts}
-use Rattle.question.specs.Asked.{endsFault, restFault, questionFault, personFault, Asks}
+use Rattle.question.specs.Asked.{endsFault, restFault, questionFault, personFault}
 use Rattle.question.specs.declared.Question.{Question}
 
 -- the ends are looked at before all else
@@ -60,13 +57,3 @@ person-proper n q person e =
     let to = unless-none (ltb (q .to) n) 10 1 (from .1) in
     let extra = unless-none (ltb person n) 10 2 (to .1) in
     (proper n q (from .0) (to .0) (extra .1), ltb-true person n (extra .0))
-
--- one result only: any two answers that the promise of `asked` allows are equal
-fault-said : (a b : code.Fault) → faultSaid a ≡ faultSaid b → a ≡ b
-fault-said code.the-variants.Sound code.the-variants.Sound e = refl
-fault-said (code.the-variants.At number place) (code.the-variants.At other there) e = cc
-fault-said code.the-variants.Sound (code.the-variants.At number place) e = let z : _≡_ {A = ℕ} 0 1 = cc in absurd (omega arith)
-fault-said (code.the-variants.At number place) code.the-variants.Sound e = let z : _≡_ {A = ℕ} 0 1 = cc in absurd (omega arith)
-
-pub asked-one : (file : List ℕ) (q : Question) {a b : code.Fault} → Asks file q a → Asks file q b → a ≡ b
-asked-one file q {a} {b} one other = fault-said a b (one ∙ sym other)

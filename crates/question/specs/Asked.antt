@@ -1,16 +1,14 @@
 -- A question, and when it is refused. Definitions only.
 -- "From, to, hops k (1 to 8), classes (a sum of classes, 1 to 15), date meaning (1 or 2), first day, last day."
-use mathlib.Core.Path.{_≡_}
 use mathlib.Core.List.{List}
 use mathlib.Core.Bool.{Bool, not, _&&_}
 use Prim.Native.Nat.{ℕ}
 use lib.Dec.{eqb, leb, ltb}
 use Rattle.format.specs.Numbers.{within}
-use Rattle.refusals.specs.Faults.{Fault, sound, unless, firstOf, faultSaid}
+use Rattle.refusals.specs.Faults.{Fault, sound, unless, firstOf}
 use Rattle.refusals.specs.Answers.{roomFault}
 use Rattle.format.specs.Format.{personCount, lastDay}
 use Rattle.checking.specs.Checked.{fileFault}
-use Rattle.refusals.specs.declared.Fault as code
 use Rattle.ways.specs.Sizes.{mostHops}
 use Rattle.question.specs.declared.Question.{Question}
 
@@ -40,10 +38,6 @@ personFault n q person = endsFault n q (unless (ltb person n) 10 2 (restFault q)
 -- the file's refusals come before the question's
 abbrev pub askedFault : List ℕ → Question → Fault
 askedFault file q = firstOf (fileFault file) (questionFault (personCount file) q)
-
--- asked: the answer is the first fault of the file and the question
-abbrev pub Asks : List ℕ → Question → code.Fault → Type 0
-Asks file q answer = faultSaid answer ≡ askedFault file q
 
 -- the same for a question that names one person more
 abbrev pub askedOfFault : List ℕ → Question → ℕ → Fault

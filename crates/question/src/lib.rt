@@ -13,7 +13,7 @@ use refusals::Fault;
 use ways::RECORD;
 ghost use mathlib.Core.Path.{_≡_};
 ghost use Rattle.refusals.specs.Faults.{faultSaid};
-ghost use Rattle.question.specs.Asked.{Asks, askedOfFault, askedRoomFault};
+ghost use Rattle.question.specs.Asked.{askedFault, askedOfFault, askedRoomFault};
 
 // From, to, hops, classes, date meaning, first day, last day.
 pub struct Question {
@@ -27,8 +27,8 @@ pub struct Question {
 }
 
 // The first refusal of any bytes and any question: the file's own, 1 to 9, then the question's, 10 to 15.
-pub fn asked(file: &[u8], question: Question) -> Fault
-    ensures { λ r. ⌜ Asks (now (file .entry)) question r ⌝ }
+fn asked(file: &[u8], question: Question) -> Fault
+    ensures { λ r. ⌜ faultSaid r ≡ askedFault (now (file .entry)) question ⌝ }
 {
     match checking::check(file) {
         Verdict::Refused { number, place } => Fault::At(number, place),

@@ -5,7 +5,8 @@ use Prim.Native.Nat.{ℕ, zero, suc, _+_, _-_, _<_, _≤_}
 use native.Mathlib.Numerals.{add-one}
 use native.Mathlib.Decide.{ℕ-discrete}
 use native.Mathlib.Omega.{arith}
-use Rattle.refusals.specs.Faults.{Fault, sound, fault, unless, firstOf, firstAmong}
+use Rattle.refusals.specs.Faults.{Fault, sound, fault, faultSaid, unless, firstOf, firstAmong}
+use Rattle.refusals.specs.declared.Fault as code
 
 -- what is still to be looked at, from `at` up to `end`, decides the whole
 pub record Looking (look : ℕ → Fault) (whole : Fault) (at end : ℕ) : Type 0 where
@@ -57,3 +58,10 @@ first-none look from (suc count) at e low high = go (look from) refl e (ℕ-disc
       where
         never : fault number place ≡ sound → ⊥
         never h = let z : _≡_ {A = ℕ} 0 1 = cc in omega arith
+
+-- one result only: what a look says tells what it found, so a promise that says it allows one
+pub fault-said : (a b : code.Fault) → faultSaid a ≡ faultSaid b → a ≡ b
+fault-said code.the-variants.Sound code.the-variants.Sound e = refl
+fault-said (code.the-variants.At number place) (code.the-variants.At other there) e = cc
+fault-said code.the-variants.Sound (code.the-variants.At number place) e = let z : _≡_ {A = ℕ} 0 1 = cc in absurd (omega arith)
+fault-said (code.the-variants.At number place) code.the-variants.Sound e = let z : _≡_ {A = ℕ} 0 1 = cc in absurd (omega arith)

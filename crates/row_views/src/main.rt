@@ -1,5 +1,5 @@
 // Prints the verdict on the link file that comes on standard input and, where it passed, the bytes of each person's row view,
-// one line a person. What the bytes are is decided in `format`.
+// one line a person. What the bytes are is decided in `checking`.
 use checking::Verdict;
 use libc::STDIN_FILENO;
 use libc::STDOUT_FILENO;

@@ -32,7 +32,7 @@ use Rattle.search.specs.HandingOver.{page}
 use Rattle.search.specs.Bookmarks.{restOf, onward, Beginning}
 use Rattle.search.specs.Entering.{seenOf, Ready, GoneThrough}
 use Rattle.search.specs.Places.{Place}
-use Rattle.search.specs.declared.places.Tally.{Tally}
+use Rattle.search.specs.declared.places.Findings.{Findings}
 use Rattle.search.proofs.Resuming.{onward-loose, onward-tight}
 
 -- ---- the bookmark
@@ -95,7 +95,7 @@ zeros i = ⊎-elim (λ l. getD-replicate recordSize i 0 0 l) (λ l. List·getD-e
 abbrev pub started-at : ℕ → ℕ → ℕ → ℕ → Place
 started-at to started room hops = record { to = to; tight = started; room = room; len = 1; left = hops }
 
-abbrev pub nothing : Tally
+abbrev pub nothing : Findings
 nothing = record { count = 0; more = 0; trail = 0 }
 
 module _ {rows targets fewest : List ℕ} {from to hops started : ℕ} {bookmark : List ℕ} (k : Asked rows targets fewest from to hops started bookmark) where
@@ -136,7 +136,7 @@ behind {rows} {targets} {from = from} {to} {hops} {started} {bookmark} k =
 ended-more : (d n : ℕ) → _≡_ {A = ℕ} (cond (ltb d n) 1 0) (cond (leb n d) 0 1)
 ended-more d n = ⊎-elim (λ l. rw (lt-ltb d n l, lt-leb n d l)) (λ l. rw (le-ltb d n l, le-leb n d l)) (lt-or-le d n)
 
-pub list-answered : {rows targets fewest : List ℕ} {from to hops started : ℕ} {bookmark : List ℕ} {ms ms′ : List Bool} {cs′ out out′ bs bs′ ts ts′ : List ℕ} {found : Tally} → Asked rows targets fewest from to hops started bookmark
+pub list-answered : {rows targets fewest : List ℕ} {from to hops started : ℕ} {bookmark : List ℕ} {ms ms′ : List Bool} {cs′ out out′ bs bs′ ts ts′ : List ℕ} {found : Findings} → Asked rows targets fewest from to hops started bookmark
     → GoneThrough rows targets bookmark ms ms′ (set blank 1 from) cs′ out out′ bs bs′ ts ts′ (started-at to started (length out / recordSize) hops) from nothing found
     → Answered rows targets from to hops started bookmark out out′ (record { count = found .count; more = found .more })
 list-answered {rows} {targets} {from = from} {to} {hops} {started} {bookmark} {out = out} {out′} {found = found} k s =

@@ -26,7 +26,7 @@ use Rattle.search.specs.HandingOver.{page, Room, Handed}
 use Rattle.search.specs.Bookmarks.{restOf, onward, Tight, Beside}
 use Rattle.search.specs.Entering.{seenOf, Ready, following, handed, next, noted, GoneThrough, Entered, Barren}
 use Rattle.search.specs.Places.{Place}
-use Rattle.search.specs.declared.places.Tally.{Tally}
+use Rattle.search.specs.declared.places.Findings.{Findings}
 use Rattle.search.proofs.Writing.{record-end, record-last}
 use Rattle.search.proofs.Resuming.{onward-loose, onward-none, onward-append, onward-end}
 
@@ -47,7 +47,7 @@ seen-more chain n x h = rw (add-one, getD-set-same chain (suc n) x 0 (omega arit
 put-back : {A : Type 0} (l : List A) (i : ℕ) (x d : A) → getD l i d ≡ d → set (set l i x) i d ≡ l
 put-back l i x d h = set-set l i x d ∙ ap (set l i) (sym h) ∙ set-getD l i d
 
-module _ {rows targets bookmark : List ℕ} {marks : List Bool} {chain out barriers trail : List ℕ} {w : Place} {v : ℕ} {found : Tally}
+module _ {rows targets bookmark : List ℕ} {marks : List Bool} {chain out barriers trail : List ℕ} {w : Place} {v : ℕ} {found : Findings}
     (k : Ready rows targets bookmark marks chain out barriers trail w v found) where
   here : Barred (graphOf rows targets) (w .to) (seenOf chain (w .len)) (w .left) barriers barriers trail trail (found .trail) (found .trail)
   here = barred-none (k .hold) (k .fits)
@@ -71,7 +71,7 @@ module _ {rows targets bookmark : List ℕ} {marks : List Bool} {chain out barri
   pub end-room : Room out chain (w .room) (w .len) (w .len) found
   end-room = record { cells = k .room; long = k .long; behind = omega arith; short = omega (arith, k .short, k .some); none = k .none }
 
-  pub enter-end : {out′ : List ℕ} {r : Tally} {s : ℕ} → Beside bookmark w v s → s ≡ 0 → v ≡ w .to → Handed out out′ chain (w .to) (w .room) (w .len) v (w .len) found r
+  pub enter-end : {out′ : List ℕ} {r : Findings} {s : ℕ} → Beside bookmark w v s → s ≡ 0 → v ≡ w .to → Handed out out′ chain (w .to) (w .room) (w .len) v (w .len) found r
       → Entered rows targets bookmark marks marks chain chain out out′ barriers barriers trail trail w v found r
   unfolding by emits
   enter-end {s = s} side z e h = record {
@@ -104,7 +104,7 @@ module _ {rows targets bookmark : List ℕ} {marks : List Bool} {chain out barri
       last-room e = record { cells = k .room; long = k .long; behind = omega arith; short = omega (arith, k .short, two); none = k .none }
 
       -- the last hop
-      pub enter-last : {out′ : List ℕ} {r : Tally} {s : ℕ} → Beside bookmark w v s → s ≡ 0 → w .left - 1 ≡ 1 → Handed out out′ chain (w .to) (w .room) (w .len) v (w .len + 1) found r
+      pub enter-last : {out′ : List ℕ} {r : Findings} {s : ℕ} → Beside bookmark w v s → s ≡ 0 → w .left - 1 ≡ 1 → Handed out out′ chain (w .to) (w .room) (w .len) v (w .len + 1) found r
           → Entered rows targets bookmark marks marks chain chain out out′ barriers barriers trail trail w v found r
       unfolding by emits
       enter-last {s = s} side z e h =
@@ -149,7 +149,7 @@ module _ {rows targets bookmark : List ℕ} {marks : List Bool} {chain out barri
         none = refl;
       }
 
-      module _ {marks′ : List Bool} {chain′ out′ barriers₁ trail₁ : List ℕ} {r : Tally} {s : ℕ}
+      module _ {marks′ : List Bool} {chain′ out′ barriers₁ trail₁ : List ℕ} {r : Findings} {s : ℕ}
           (done : GoneThrough rows targets bookmark (set marks v true) marks′ (set chain (w .len + 1) v) chain′ out out′ barriers barriers₁ trail trail₁ (next w s) v (noted found) r) where
         on-barred : Barred (graphOf rows targets) (w .to) (v ∷ seenOf chain (w .len)) (w .left - 1) barriers barriers₁ trail trail₁ (found .trail) (r .trail)
         on-barred = rw seen-next at (done .barred)
@@ -183,7 +183,7 @@ abbrev pub still : List ℕ → List ℕ → List ℕ → List ℕ → Place →
 still rows targets bookmark chain w i end = onward (w .tight) (restOf bookmark (w .len)) (flatMap (by (w .to) (seenOf chain (w .len)) (ways (graphOf rows targets) (w .to) (w .left - 1))) (slice i end targets))
 
 -- the loop's invariant: what was handed over, with what is still to come, is all
-pub record Turning (rows targets bookmark : List ℕ) (marks₀ : List Bool) (chain₀ out₀ barriers₀ trail₀ : List ℕ) (w : Place) (at end : ℕ) (found₀ : Tally) (marks : List Bool) (chain out barriers trail : List ℕ) (i : ℕ) (found : Tally) : Type 0 where
+pub record Turning (rows targets bookmark : List ℕ) (marks₀ : List Bool) (chain₀ out₀ barriers₀ trail₀ : List ℕ) (w : Place) (at end : ℕ) (found₀ : Findings) (marks : List Bool) (chain out barriers trail : List ℕ) (i : ℕ) (found : Findings) : Type 0 where
   pub ready : Ready rows targets bookmark marks₀ chain₀ out₀ barriers₀ trail₀ w at found₀
   pub barred : Barred (graphOf rows targets) (w .to) (seenOf chain₀ (w .len)) (w .left) barriers₀ barriers trail₀ trail (found₀ .trail) (found .trail)
   pub same : marks ≡ marks₀
@@ -194,7 +194,7 @@ pub record Turning (rows targets bookmark : List ℕ) (marks₀ : List Bool) (ch
   pub none : found .more ≡ 0
   pub right : handed chain₀ w (page found out) (still rows targets bookmark chain₀ w i end) ≡ handed chain₀ w (page found₀ out₀) (following rows targets bookmark chain₀ w at)
 
-module _ {rows targets bookmark : List ℕ} {marks : List Bool} {chain out barriers trail : List ℕ} {w : Place} {at : ℕ} {found : Tally} where
+module _ {rows targets bookmark : List ℕ} {marks : List Bool} {chain out barriers trail : List ℕ} {w : Place} {at : ℕ} {found : Findings} where
   pub go-start : Ready rows targets bookmark marks chain out barriers trail w at found
       → Turning rows targets bookmark marks chain out barriers trail w at (getD rows (at + 1) 0) (noted found) marks chain out barriers trail (getD rows at 0) (noted found)
   go-start k = record {
@@ -210,12 +210,12 @@ module _ {rows targets bookmark : List ℕ} {marks : List Bool} {chain out barri
   }
 
   -- nothing was noted before
-  pub go-noted : {marks′ : List Bool} {chain′ out′ barriers′ trail′ : List ℕ} {found′ : Tally} → Ready rows targets bookmark marks chain out barriers trail w at found
+  pub go-noted : {marks′ : List Bool} {chain′ out′ barriers′ trail′ : List ℕ} {found′ : Findings} → Ready rows targets bookmark marks chain out barriers trail w at found
       → GoneThrough rows targets bookmark marks marks′ chain chain′ out out′ barriers barriers′ trail trail′ w at (noted found) found′
       → GoneThrough rows targets bookmark marks marks′ chain chain′ out out′ barriers barriers′ trail trail′ w at found found′
   go-noted k g = record { same = g .same; whole = g .whole; right = rw (k .none) (g .right); barred = g .barred }
 
-  module _ {end : ℕ} {marks′ : List Bool} {chain′ out′ barriers′ trail′ : List ℕ} {i : ℕ} {found′ : Tally} (inv : Turning rows targets bookmark marks chain out barriers trail w at end found marks′ chain′ out′ barriers′ trail′ i found′) where
+  module _ {end : ℕ} {marks′ : List Bool} {chain′ out′ barriers′ trail′ : List ℕ} {i : ℕ} {found′ : Findings} (inv : Turning rows targets bookmark marks chain out barriers trail w at end found marks′ chain′ out′ barriers′ trail′ i found′) where
     pub go-enter : i < end → Ready rows targets bookmark marks′ chain′ out′ barriers′ trail′ w (getD targets i 0) found′
     go-enter lt = let k = inv .ready in record {
       graph = k .graph;
@@ -232,7 +232,7 @@ module _ {rows targets bookmark : List ℕ} {marks : List Bool} {chain out barri
       none = inv .none;
     }
 
-    module _ {marks″ : List Bool} {chain″ out″ barriers″ trail″ : List ℕ} {found″ : Tally} (lt : i < end)
+    module _ {marks″ : List Bool} {chain″ out″ barriers″ trail″ : List ℕ} {found″ : Findings} (lt : i < end)
         (e : Entered rows targets bookmark marks′ marks″ chain′ chain″ out′ out″ barriers′ barriers″ trail′ trail″ w (getD targets i 0) found′ found″) where
       step-right : handed chain w (page found″ out″) (still rows targets bookmark chain w (i + 1) end) ≡ handed chain w (page found out) (following rows targets bookmark chain w at)
       unfolding flatMap

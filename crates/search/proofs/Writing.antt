@@ -11,7 +11,7 @@ use Rattle.ways.specs.Sizes.{recordSize}
 use Rattle.pages.specs.Pages.{recordWith}
 use Rattle.pages.proofs.Copying.{paste-set}
 use Rattle.search.specs.HandingOver.{Room, Handed}
-use Rattle.search.specs.declared.places.Tally.{Tally}
+use Rattle.search.specs.declared.places.Findings.{Findings}
 
 -- ---- `hand_over`
 
@@ -26,7 +26,7 @@ set-record out chain at a b x y z fits long ha hb =
     ∙ ap (λ (o : List ℕ). set o (at + b) z) (paste-set out at (set chain 0 x) recordSize a y (omega arith) (omega arith) ha)
     ∙ paste-set out at (set (set chain 0 x) a y) recordSize b z (omega arith) (omega arith) hb
 
-module _ {out chain : List ℕ} {room len hops : ℕ} {found : Tally} (k : Room out chain room len hops found) where
+module _ {out chain : List ℕ} {room len hops : ℕ} {found : Findings} (k : Room out chain room len hops found) where
   pub hand-full : {to v : ℕ} → room ≤ found .count → Handed out out chain to room len v hops found (record { count = found .count; more = 1; trail = found .trail })
   hand-full h = record { trail = refl; right = rw (eq-eqb (found .more) 0 (k .none), le-ltb (found .count) room h) }
 

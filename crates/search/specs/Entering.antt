@@ -13,7 +13,7 @@ use Rattle.barriers.specs.Barriers.{Hold, Barred}
 use Rattle.search.specs.HandingOver.{page}
 use Rattle.search.specs.Bookmarks.{restOf, onward, Tight}
 use Rattle.search.specs.Places.{Place}
-use Rattle.search.specs.declared.places.Tally.{Tally}
+use Rattle.search.specs.declared.places.Findings.{Findings}
 
 -- the first n persons of the chain, the last first
 unfoldable pub seenOf : List ℕ → ℕ → List ℕ
@@ -22,7 +22,7 @@ seenOf chain (suc n) = getD chain (suc n) 0 ∷ seenOf chain n
 
 -- what both functions ask: a graph, a person, marks of those in the chain, cells for the hops left and zeros in them,
 -- barriers that hold
-pub record Ready (rows targets bookmark : List ℕ) (marks : List Bool) (chain out barriers trail : List ℕ) (w : Place) (at : ℕ) (found : Tally) : Type 0 where
+pub record Ready (rows targets bookmark : List ℕ) (marks : List Bool) (chain out barriers trail : List ℕ) (w : Place) (at : ℕ) (found : Findings) : Type 0 where
   pub graph : Compact rows targets
   pub place : at < persons
   pub marked : Marked marks (seenOf chain (w .len))
@@ -53,25 +53,25 @@ abbrev pub next : Place → ℕ → Place
 next w s = record { to = w .to; tight = s; room = w .room; len = w .len + 1; left = w .left - 1 }
 
 -- what was found so far, and nothing noted
-abbrev pub noted : Tally → Tally
+abbrev pub noted : Findings → Findings
 noted f = record { count = f .count; more = 0; trail = f .trail }
 
 -- going through a person's links hands over the ways on from there, and leaves the marks and the chain as they were
-pub record GoneThrough (rows targets bookmark : List ℕ) (marks marks′ : List Bool) (chain chain′ out out′ barriers barriers′ trail trail′ : List ℕ) (w : Place) (at : ℕ) (found found′ : Tally) : Type 0 where
+pub record GoneThrough (rows targets bookmark : List ℕ) (marks marks′ : List Bool) (chain chain′ out out′ barriers barriers′ trail trail′ : List ℕ) (w : Place) (at : ℕ) (found found′ : Findings) : Type 0 where
   pub same : marks′ ≡ marks
   pub whole : chain′ ≡ chain
   pub right : page found′ out′ ≡ handed chain w (page found out) (following rows targets bookmark chain w at)
   pub barred : Barred (graphOf rows targets) (w .to) (seenOf chain (w .len)) (w .left) barriers barriers′ trail trail′ (found .trail) (found′ .trail)
 
 -- entering v hands over the ways on whose next person is v
-pub record Entered (rows targets bookmark : List ℕ) (marks marks′ : List Bool) (chain chain′ out out′ barriers barriers′ trail trail′ : List ℕ) (w : Place) (v : ℕ) (found found′ : Tally) : Type 0 where
+pub record Entered (rows targets bookmark : List ℕ) (marks marks′ : List Bool) (chain chain′ out out′ barriers barriers′ trail trail′ : List ℕ) (w : Place) (v : ℕ) (found found′ : Findings) : Type 0 where
   pub same : marks′ ≡ marks
   pub whole : chain′ ≡ chain
   pub right : page found′ out′ ≡ handed chain w (page found out) (through rows targets bookmark chain w v)
   pub barred : Barred (graphOf rows targets) (w .to) (seenOf chain (w .len)) (w .left) barriers barriers′ trail trail′ (found .trail) (found′ .trail)
 
 -- nothing was found, and nothing skipped
-pub record Barren (side : ℕ) (before after : Tally) : Type 0 where
+pub record Barren (side : ℕ) (before after : Findings) : Type 0 where
   pub loose : side ≡ 0
   pub none : after .more ≡ 0
   pub same : after .count ≡ before .count

@@ -16,9 +16,9 @@ use compact::PERSONS;
 use compact::STARTS;
 use pages::HandedOver;
 use places::Ask;
+use places::Findings;
 use places::Stand;
 use places::TRAIL;
-use places::Tally;
 use ways::RECORD;
 
 // Writes the chains from `from` to `to` of at most `hops` hops, those behind the bookmark where the listing was
@@ -58,7 +58,7 @@ pub fn list(
         Ask { to: to, room: room },
         Stand { len: 1, left: hops },
         started,
-        Tally {
+        Findings {
             count: 0,
             more: 0,
             trail: 0,

@@ -20,7 +20,7 @@ pub struct Stand {
 
 // What the search has to show: so many records written, whether there is one more than there is room for (1), and how many entries
 // the trail has.
-pub struct Tally {
+pub struct Findings {
     pub count: usize,
     pub more: usize,
     pub trail: usize,

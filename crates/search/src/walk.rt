@@ -2,9 +2,9 @@
 ghost use Rattle.search.specs.Places.{placeOf};
 ghost use Rattle.search.specs.Entering.{Ready, Entered, GoneThrough};
 use crate::places::Ask;
+use crate::places::Findings;
 use crate::places::Stand;
 use crate::places::TRAIL;
-use crate::places::Tally;
 use compact::LINKS;
 use compact::PERSONS;
 use compact::STARTS;
@@ -25,8 +25,8 @@ pub fn enter(
     ask: Ask,
     stand: Stand,
     tight: u32,
-    found: Tally,
-) -> Tally
+    found: Findings,
+) -> Findings
     requires { ⌜ Ready (now rows) (now targets) (now bookmark) (now marks) (now chain) (now out) (now barriers) (now trail) (placeOf ask stand tight) v found ⌝ }
     ensures { λ r. ⌜ Entered (now (rows .entry)) (now (targets .entry)) (now (bookmark .entry)) (now (marks .entry)) (now (marks .exit)) (now (chain .entry)) (now (chain .exit)) (now (out .entry)) (now (out .exit)) (now (barriers .entry)) (now (barriers .exit)) (now (trail .entry)) (now (trail .exit)) (placeOf ask stand tight) v found r ⌝ }
 {
@@ -76,7 +76,7 @@ pub fn enter(
             left: left,
         },
         side,
-        Tally {
+        Findings {
             count: found.count,
             more: 0,
             trail: found.trail,
@@ -86,7 +86,7 @@ pub fn enter(
     chain[len] = 0;
     let barren = crate::leaving::barren(side, found, got);
     let height = barriers::settle(barriers, trail, at, left, barren, found.trail, got.trail);
-    Tally {
+    Findings {
         count: got.count,
         more: got.more,
         trail: height,
@@ -107,14 +107,14 @@ pub fn go_through(
     ask: Ask,
     stand: Stand,
     tight: u32,
-    found: Tally,
-) -> Tally
+    found: Findings,
+) -> Findings
     requires { ⌜ Ready (now rows) (now targets) (now bookmark) (now marks) (now chain) (now out) (now barriers) (now trail) (placeOf ask stand tight) at found ⌝ }
     ensures { λ r. ⌜ GoneThrough (now (rows .entry)) (now (targets .entry)) (now (bookmark .entry)) (now (marks .entry)) (now (marks .exit)) (now (chain .entry)) (now (chain .exit)) (now (out .entry)) (now (out .exit)) (now (barriers .entry)) (now (barriers .exit)) (now (trail .entry)) (now (trail .exit)) (placeOf ask stand tight) at found r ⌝ }
 {
     let mut i = rows[at] as usize;
     let end = rows[at + 1] as usize;
-    let mut got = Tally {
+    let mut got = Findings {
         count: found.count,
         more: 0,
         trail: found.trail,

@@ -15,7 +15,7 @@ use Rattle.ways.proofs.Members.{keep-append}
 use Rattle.compact.specs.Compact.{persons, graphOf}
 use Rattle.pages.specs.Pages.{Page, emit, emits, recordWith}
 use Rattle.pages.specs.declared.HandedOver.{HandedOver}
-use Rattle.traces.specs.Pages.{page, part, Room, Handed, Ending, Ended}
+use Rattle.traces.specs.HandingOver.{page, part, Room, Handed, Ending, Ended}
 use Rattle.traces.specs.Traces.{clear, Persons, restOf, restsOf, placeOf, indexedAt, rightsOf, Indexed, Open, handed, Ready, Arrived, following, taking, Going, Extended}
 use Rattle.traces.specs.declared.trace.Trace.{Trace}
 use Rattle.traces.proofs.Turns.{Over, turn-on, turn-over}

@@ -12,7 +12,7 @@ use Rattle.pages.specs.Pages.{recordWith}
 use Rattle.pages.specs.declared.HandedOver.{HandedOver}
 use Rattle.pages.proofs.Copying.{paste-set}
 use Rattle.pages.proofs.Recording.{recordWith-paste}
-use Rattle.traces.specs.Pages.{part, Room, Handed, Ending, Ended}
+use Rattle.traces.specs.HandingOver.{part, Room, Handed, Ending, Ended}
 use Rattle.traces.specs.declared.trace.Trace.{Trace}
 
 -- ---- a record is put together where it lies

@@ -10,7 +10,7 @@ use Rattle.ways.specs.Sizes.{recordSize}
 use Rattle.compact.specs.Compact.{persons, graphOf, Compact}
 use Rattle.pages.specs.Pages.{Page, emits, recordWith}
 use Rattle.pages.specs.declared.HandedOver.{HandedOver}
-use Rattle.traces.specs.Pages.{page, part}
+use Rattle.traces.specs.HandingOver.{page, part}
 use Rattle.traces.specs.declared.trace.Trace.{Trace}
 
 -- whether nobody of the persons is marked

@@ -1,6 +1,6 @@
 // A left half has come to its middle person: it is paired with each right half that starts there.
 ghost use mathlib.Core.Path.{_≡_};
-ghost use Rattle.traces.specs.Pages.{part};
+ghost use Rattle.traces.specs.HandingOver.{part};
 ghost use Rattle.traces.specs.Traces.{clear, Persons, Ready, Arrived};
 use crate::trace::Trace;
 use compact::PERSONS;

@@ -1,5 +1,5 @@
 // Handing over a chain: it is counted, its record is written, or it is the one more for which there is no room.
-ghost use Rattle.traces.specs.Pages.{Room, Handed, Ending, Ended};
+ghost use Rattle.traces.specs.HandingOver.{Room, Handed, Ending, Ended};
 use crate::trace::Trace;
 use pages::HandedOver;
 use ways::RECORD;

@@ -1,4 +1,4 @@
-// How far a sequence has been traced towards To.
+// What all modules of this room hand each other.
 
 // The plain numbers of a sequence that is traced towards To. No bool, so that there is no padding: it is copied with each step.
 pub struct Trace {

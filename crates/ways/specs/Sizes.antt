@@ -1,4 +1,4 @@
--- The numbers of the product: the record, the hops, and the limits of a file. Everything else is counted from them. Definitions only.
+-- The numbers of the product: the record, the hops, and the limits of a file. Every room takes them from here. Definitions only.
 use Prim.Native.Nat.{ℕ}
 
 -- "A chain record has ten 32-bit cells: the hops L, then L+1 persons, then zeros."

@@ -7,7 +7,7 @@ use Rattle.outside.proofs.kin_held.Statement.{statement}
 use Rattle.outside.proofs.kin_held.Tie as tie
 
 returns : tie.Need-returns
-returns c = record { wrongSize = λ n. (refl, refl, refl); moved = λ e. absurd (c .if1 .taken e) }
+returns c = record { wrongSize = λ n. (c .refusal-number .ensures, refl, refl); moved = λ e. absurd (c .before .if1 .taken e) }
 
 listed-number-requires : tie.Need-listed-number-requires
 listed-number-requires c κs =
@@ -37,5 +37,5 @@ returns-2 c =
 pub kin-held-spec : {M : Type 1} → statement M
 kin-held-spec =
     tie.close
-    (tie.spec returns (λ c κs. search needs) (λ c κs. search needs) (λ c κs. search needs) listed-number-requires (λ c. search needs)
+    (tie.spec (λ c κs. search needs) returns (λ c κs. search needs) (λ c κs. search needs) (λ c κs. search needs) listed-number-requires (λ c. search needs)
     (λ c. search needs) returns-2)

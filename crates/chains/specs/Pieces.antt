@@ -1,4 +1,4 @@
--- What is printed, sheet by sheet: what is still to be printed. Definitions only.
+-- What is printed, piece by piece: what is still to be printed. Definitions only.
 use mathlib.Core.Path.{_≡_}
 use mathlib.Core.List.{List, [], _∷_, _++_}
 use mathlib.Core.Bool.{Bool, true, false, cond}
@@ -13,7 +13,7 @@ use Rattle.chains.specs.Program.{questionSize, questionIn, printed}
 use Rattle.chains.specs.Onward.{toCome, OnTheWay}
 use Rattle.chains.specs.declared.progress.Left as code
 use Rattle.chains.specs.declared.progress.Progress.{Progress}
-use Rattle.chains.specs.declared.sheets.Sheet.{Sheet}
+use Rattle.chains.specs.declared.pieces.Piece.{Piece}
 
 -- what is still to be printed from a start on, where so many chains were printed before: a short input is refused
 abbrev pub fromStart : List ℕ → Start → ℕ → List ℕ
@@ -62,20 +62,20 @@ pub record Begins (progress : Progress) : Type 0 where
   pub ready : (input cells : List ℕ) → recordSize ≤ length cells → Standing input cells progress
   pub all : (input cells : List ℕ) → toPrint input cells progress ≡ printed input
 
--- a sheet: what was to be printed before is its bytes, and then what is to be printed after it; it is empty only where nothing is left
-pub record NextSheet (input cells : List ℕ) (progress : Progress) (cells′ out′ : List ℕ) (sheet : Sheet) : Type 0 where
-  pub within : sheet .bytes ≤ length out′
-  pub text : toPrint input cells progress ≡ take (sheet .bytes) out′ ++ toPrint input cells′ (sheet .progress)
-  pub empty : sheet .bytes ≡ 0 → toPrint input cells progress ≡ []
-  pub ready : Standing input cells′ (sheet .progress)
+-- a piece: what was to be printed before is its bytes, and then what is to be printed after it; it is empty only where nothing is left
+pub record NextPiece (input cells : List ℕ) (progress : Progress) (cells′ out′ : List ℕ) (piece : Piece) : Type 0 where
+  pub within : piece .bytes ≤ length out′
+  pub text : toPrint input cells progress ≡ take (piece .bytes) out′ ++ toPrint input cells′ (piece .progress)
+  pub empty : piece .bytes ≡ 0 → toPrint input cells progress ≡ []
+  pub ready : Standing input cells′ (piece .progress)
 
--- a run of calls, each from where the one before it left off, until a sheet is empty: the sheets
+-- a run of calls, each from where the one before it left off, until a piece is empty: the pieces
 pub data Run (input : List ℕ) : List ℕ → Progress → List (List ℕ) → Type 0 where
-  done : {cells : List ℕ} {progress : Progress} {cells′ out′ : List ℕ} {sheet : Sheet} → NextSheet input cells progress cells′ out′ sheet → sheet .bytes ≡ 0 → Run input cells progress []
-  next : {cells : List ℕ} {progress : Progress} {cells′ out′ : List ℕ} {sheet : Sheet} {sheets : List (List ℕ)} → NextSheet input cells progress cells′ out′ sheet
-      → Run input cells′ (sheet .progress) sheets → Run input cells progress (take (sheet .bytes) out′ ∷ sheets)
+  done : {cells : List ℕ} {progress : Progress} {cells′ out′ : List ℕ} {piece : Piece} → NextPiece input cells progress cells′ out′ piece → piece .bytes ≡ 0 → Run input cells progress []
+  next : {cells : List ℕ} {progress : Progress} {cells′ out′ : List ℕ} {piece : Piece} {pieces : List (List ℕ)} → NextPiece input cells progress cells′ out′ piece
+      → Run input cells′ (piece .progress) pieces → Run input cells progress (take (piece .bytes) out′ ∷ pieces)
 
--- the sheets laid end to end
+-- the pieces laid end to end
 abbrev pub laid : List (List ℕ) → List ℕ
 laid [] = []
-laid (sheet ∷ sheets) = sheet ++ laid sheets
+laid (piece ∷ pieces) = piece ++ laid pieces

@@ -1,4 +1,4 @@
--- Handing over a chain of the join: what it asks, and what it does. Definitions only.
+-- Handing over a sequence that is whole: what it asks, and what it does. Definitions only.
 use mathlib.Core.Path.{_≡_}
 use mathlib.Core.Bool.{cond}
 use mathlib.Core.List.{List, []}

@@ -1,8 +1,8 @@
 -- `behind_lines` meets its contract, branch by branch.
 use mathlib.Core.Logic.{⊎-elim}
 use borrow.Author.Tests.{lt-ltb, le-ltb}
-use Rattle.chains.proofs.sheets.behind_lines.Statement.{statement}
-use Rattle.chains.proofs.sheets.behind_lines.Tie as tie
+use Rattle.chains.proofs.pieces.behind_lines.Statement.{statement}
+use Rattle.chains.proofs.pieces.behind_lines.Tie as tie
 
 returns : tie.Need-returns
 returns c =

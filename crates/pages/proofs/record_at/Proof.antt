@@ -4,8 +4,8 @@ use mathlib.Core.Path.{refl, _∙_}
 use lib.ListN.{drop, replicate}
 use Rattle.ways.specs.Sizes.{recordSize}
 use Rattle.cells.proofs.Copying.{paste-whole}
-use Rattle.held.proofs.record_at.Statement.{statement}
-use Rattle.held.proofs.record_at.Tie as tie
+use Rattle.pages.proofs.record_at.Statement.{statement}
+use Rattle.pages.proofs.record_at.Tie as tie
 
 returns : tie.Need-returns
 returns c =
