@@ -82,17 +82,11 @@ pub fn is_chain(
     if cells.len() != RECORD {
         return false;
     }
-    if !format::numbers::within(1, hops, cells[0]) {
-        return false;
-    }
-    if cells[1] != from {
-        return false;
-    }
     let last = cells[0] as usize + 1;
-    if !run(starts, targets, cells, last, to) {
-        return false;
-    }
-    blank(cells, last + 1)
+    format::numbers::within(1, hops, cells[0])
+        && cells[1] == from
+        && run(starts, targets, cells, last, to)
+        && blank(cells, last + 1)
 }
 
 // Whether a portion may start here: a fresh start may, and a bookmark that is the record of a chain.
