@@ -41,10 +41,9 @@ fn run(starts: &[u16; STARTS], targets: &[u16; LINKS], cells: &[u32], last: usiz
     let mut at = 1;
     while at < last {
         let person = cells[at];
-        if !leads(starts, targets, person, cells[at + 1]) {
-            return false;
-        }
-        if cells::stands(cells, at + 1, last + 1, person) {
+        if !leads(starts, targets, person, cells[at + 1])
+            || cells::stands(cells, at + 1, last + 1, person)
+        {
             return false;
         }
         at += 1;
