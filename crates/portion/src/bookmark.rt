@@ -41,10 +41,9 @@ fn run(starts: &[u16; STARTS], targets: &[u16; LINKS], cells: &[u32], last: usiz
     let mut at = 1;
     while at < last {
         let person = cells[at];
-        if !leads(starts, targets, person, cells[at + 1]) {
-            return false;
-        }
-        if cells::stands(cells, at + 1, last + 1, person) {
+        if !leads(starts, targets, person, cells[at + 1])
+            || cells::stands(cells, at + 1, last + 1, person)
+        {
             return false;
         }
         at += 1;
@@ -82,17 +81,11 @@ pub fn is_chain(
     if cells.len() != RECORD {
         return false;
     }
-    if !format::numbers::within(1, hops, cells[0]) {
-        return false;
-    }
-    if cells[1] != from {
-        return false;
-    }
     let last = cells[0] as usize + 1;
-    if !run(starts, targets, cells, last, to) {
-        return false;
-    }
-    blank(cells, last + 1)
+    format::numbers::within(1, hops, cells[0])
+        && cells[1] == from
+        && run(starts, targets, cells, last, to)
+        && blank(cells, last + 1)
 }
 
 // Whether a portion may start here: a fresh start may, and a bookmark that is the record of a chain.

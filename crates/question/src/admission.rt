@@ -46,12 +46,10 @@ fn day_admitted(file: &[u8], question: Question, link: Link) -> bool
     ensures { λ r. ⌜ r ≡ dayAdmitted (now (file .entry)) question link ⌝ }
 {
     let feed = link.feed as usize;
-    if link.day == 0 {
-        return true;
-    }
-    question.first <= link.day
-        && link.day <= question.last
-        && feeds::meaning(file, feed) == question.meaning
+    link.day == 0
+        || (question.first <= link.day
+            && link.day <= question.last
+            && feeds::meaning(file, feed) == question.meaning)
 }
 
 // Whether a link of a file that passed is admitted.

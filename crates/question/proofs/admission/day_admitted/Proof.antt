@@ -31,4 +31,4 @@ returns-3 c = rw (ne-eqb _ 0 (c .before .before .before .before .if1 .left), ←
 pub day-admitted-spec : {M : Type 1} → statement M
 day-admitted-spec =
     tie.close
-    (tie.spec (λ c. search needs) returns (λ c κs. search needs) returns-2 returns-3)
+    (tie.spec (λ c. search needs) (λ c κs. search needs) returns returns-2 returns-3)
