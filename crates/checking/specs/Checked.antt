@@ -20,7 +20,9 @@ feedRuled file feed = leb 1 (archive file feed) && archiveRises file feed && eqb
 
 -- Feeds are taken in file order, 4 before 5 in each. Meaning 1 is the day of the event, 2 the day of registration.
 unfoldable pub feedFault : List ℕ → ℕ → Fault
-feedFault file feed = unless (feedRuled file feed) 4 (feedPlace (countsIn file) feed) (unless (within 1 2 (meaning file feed)) 5 (feedPlace (countsIn file) feed) sound)
+feedFault file feed =
+    unless (feedRuled file feed) 4 (feedPlace (countsIn file) feed)
+    (unless (within 1 2 (meaning file feed)) 5 (feedPlace (countsIn file) feed) sound)
 
 -- The row table starts at 0, never falls, ends at m.
 unfoldable pub rowStartsOrKeeps : List ℕ → ℕ → Bool

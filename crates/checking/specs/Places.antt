@@ -1,4 +1,5 @@
--- The place of each refusal, one definition each: of the file where the header is refused, else of the header's counts and what is refused. Definitions only.
+-- The place of each refusal, one definition each: over the file where its header is refused, else over the header's counts and what is
+-- refused. Definitions only.
 use mathlib.Core.List.{List}
 use Prim.Native.Nat.{ℕ}
 use Rattle.format.specs.declared.layout.Counts.{Counts}

@@ -1,4 +1,4 @@
--- `of_counts` meets its contract: the place is that of the counts.
+-- `of_counts` meets its contract: 0 is the place of the counts.
 use borrow.Author.Needs.{needs}
 use Rattle.checking.specs.Places.{countsPlace}
 use Rattle.checking.proofs.places.of_counts.Statement.{statement}

@@ -1,4 +1,4 @@
--- `of_entry` meets its contract: the place is that of an entry.
+-- `of_entry` meets its contract: the number is the place of an entry.
 use borrow.Author.Needs.{needs}
 use Rattle.checking.specs.Places.{entryPlace}
 use Rattle.checking.proofs.places.of_entry.Statement.{statement}

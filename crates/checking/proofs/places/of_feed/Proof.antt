@@ -1,4 +1,4 @@
--- `of_feed` meets its contract: the place is that of a feed.
+-- `of_feed` meets its contract: the number is the place of a feed.
 use borrow.Author.Needs.{needs}
 use Rattle.checking.specs.Places.{feedPlace}
 use Rattle.checking.proofs.places.of_feed.Statement.{statement}

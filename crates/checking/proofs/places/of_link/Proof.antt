@@ -1,4 +1,4 @@
--- `of_link` meets its contract: the place is that of a link.
+-- `of_link` meets its contract: the number is the place of a link.
 use borrow.Author.Needs.{needs}
 use Rattle.checking.specs.Places.{linkPlace}
 use Rattle.checking.proofs.places.of_link.Statement.{statement}

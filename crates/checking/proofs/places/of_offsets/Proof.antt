@@ -1,4 +1,4 @@
--- `of_offsets` meets its contract: the place is that of the offsets.
+-- `of_offsets` meets its contract: 0 is the place of the offsets.
 use borrow.Author.Needs.{needs}
 use Rattle.checking.specs.Places.{offsetsPlace}
 use Rattle.checking.proofs.places.of_offsets.Statement.{statement}
