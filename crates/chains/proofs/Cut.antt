@@ -12,6 +12,7 @@ use lib.Seq.{getD-take, take-nil, take-all, length-take-le}
 use Rattle.format.specs.Numbers.{number16, number32}
 use Rattle.format.specs.Format.{marked, fit, countsFit, laidOut}
 use Rattle.refusals.specs.Faults.{fault, unless}
+use Rattle.checking.specs.Places.{countsPlace, offsetsPlace}
 use Rattle.checking.specs.Checked.{tablesFault, fileFault}
 use Rattle.format.proofs.Counted.{counts-fit, laid-out-long}
 use Rattle.question.specs.declared.Question.{Question}
@@ -25,7 +26,7 @@ use Rattle.chains.proofs.Putting.{laid-pieces}
 
 -- ---- a file longer than any file
 long-fault : (file : List ℕ) → longestFile < length file → fileFault file ≡ fault (longRefusal file) 0
-unfolding fileFault
+unfolding fileFault countsPlace offsetsPlace
 long-fault file h = go (marked file) (countsFit file) (laidOut file) refl refl
   where
     go : (a b c : Bool) → countsFit file ≡ b → laidOut file ≡ c → unless a 1 0 (unless b 2 0 (unless c 3 0 (tablesFault file))) ≡ fault (cond a (cond b 3 2) 1) 0

@@ -32,9 +32,9 @@ pub record Ruled (counts : Counts) (owner : ℕ) (before : Before) (link : Link)
 pub link-facts : (counts : Counts) (owner : ℕ) (before : Before) (link : Link) (number : ℕ) → linkFault counts owner before link number ≡ sound → Ruled counts owner before link
 unfolding linkFault linkRuled
 link-facts counts owner before link number e =
-    let seven = unless-none (linkRuled counts owner before link) 7 (linkPlace number) e in
-    let eight = unless-none (known (classOf (link .kind))) 8 (linkPlace number) (seven .1) in
-    let nine = unless-none (leb (link .day) lastDay) 9 (linkPlace number) (eight .1) in
+    let seven = unless-none (linkRuled counts owner before link) 7 (linkPlace counts number) e in
+    let eight = unless-none (known (classOf (link .kind))) 8 (linkPlace counts number) (seven .1) in
+    let nine = unless-none (leb (link .day) lastDay) 9 (linkPlace counts number) (eight .1) in
     let low = ltb (link .target) (counts .persons) in
     let self = not (eqb (link .target) owner) in
     let fed = ltb (link .feed) (counts .feeds) in

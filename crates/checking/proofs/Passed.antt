@@ -7,6 +7,7 @@ use native.Mathlib.Omega.{arith}
 use Rattle.format.specs.Format.{marked, countsFit, laidOut, personCount, linkCount, feedCount, row}
 use Rattle.checking.specs.Verdict.{Verdict, passed, refused, verdict}
 use Rattle.refusals.specs.Faults.{Fault, sound, fault, unless, firstOf, firstAmong}
+use Rattle.checking.specs.Places.{markPlace, countsPlace, offsetsPlace}
 use Rattle.checking.specs.Checked.{feedFault, rowFault, ownedFault, tablesFault, fileFault, checked}
 use Rattle.format.specs.Laid.{Laid}
 use Rattle.checking.specs.Inside.{Rowed}
@@ -31,7 +32,7 @@ pub sound-rules : (file : List ℕ) → fileFault file ≡ sound → Passed file
 unfolding fileFault
 sound-rules file e = go (marked file) (countsFit file) (laidOut file) refl refl refl e
   where
-    go : (a b c : Bool) → marked file ≡ a → countsFit file ≡ b → laidOut file ≡ c → unless a 1 0 (unless b 2 0 (unless c 3 0 (tablesFault file))) ≡ sound
+    go : (a b c : Bool) → marked file ≡ a → countsFit file ≡ b → laidOut file ≡ c → unless a 1 markPlace (unless b 2 (countsPlace file) (unless c 3 (offsetsPlace file) (tablesFault file))) ≡ sound
         → Passed file (personCount file) (linkCount file) (feedCount file)
     go true true true a b c e = record { marks = a; fits = b; lays = c; tables = e; persons = refl; links = refl; feeds = refl }
     go true true false a b c e = let z : _≡_ {A = ℕ} 0 1 = cc in absurd (omega arith)

@@ -5,8 +5,9 @@ use mathlib.Core.List.{List}
 use Prim.Native.Nat.{ℕ, zero, suc, _+_, _-_, _<_, _≤_}
 use native.Mathlib.Omega.{arith}
 use borrow.Author.Tests.{leb-true, eqb-true, ne-eqb, eq-eqb}
-use Rattle.format.specs.Format.{personCount, linkCount, row, linkIn}
+use Rattle.format.specs.Format.{personCount, linkCount, countsIn, row, linkIn}
 use Rattle.refusals.specs.Faults.{Fault, sound}
+use Rattle.checking.specs.Places.{entryPlace}
 use Rattle.checking.specs.Checked.{rowStartsOrKeeps, rowEnds, rowRuled, rowFault, beforeIn, linkFaultIn, ownedFault}
 use Rattle.checking.specs.Inside.{Rowed}
 use Rattle.format.specs.declared.layout.Counts.{Counts}
@@ -20,7 +21,7 @@ use Rattle.checking.specs.declared.links.Before as code
 module _ {file : List ℕ} {counts : Counts} (r : Rowed file counts) where
   row-holds : (entry : ℕ) → entry ≤ counts .persons → (rowStartsOrKeeps file entry ≡ true) × (rowEnds file entry ≡ true)
   unfolding rowFault rowRuled
-  row-holds entry h = halves (rowStartsOrKeeps file entry) (rowEnds file entry) (unless-none (rowStartsOrKeeps file entry && rowEnds file entry) 6 entry (first-none (rowFault file) 0 (personCount file + 1) entry (r .rows) (omega arith) (omega (arith, r .laid))) .0)
+  row-holds entry h = halves (rowStartsOrKeeps file entry) (rowEnds file entry) (unless-none (rowStartsOrKeeps file entry && rowEnds file entry) 6 (entryPlace (countsIn file) entry) (first-none (rowFault file) 0 (personCount file + 1) entry (r .rows) (omega arith) (omega (arith, r .laid))) .0)
 
   pub rows-keep : (owner : ℕ) → owner < counts .persons → row file owner ≤ row file (owner + 1)
   unfolding rowStartsOrKeeps

@@ -20,7 +20,9 @@ feedRuled file feed = leb 1 (archive file feed) && archiveRises file feed && eqb
 
 -- Feeds are taken in file order, 4 before 5 in each. Meaning 1 is the day of the event, 2 the day of registration.
 unfoldable pub feedFault : List ℕ → ℕ → Fault
-feedFault file feed = unless (feedRuled file feed) 4 (feedPlace feed) (unless (within 1 2 (meaning file feed)) 5 (feedPlace feed) sound)
+feedFault file feed =
+    unless (feedRuled file feed) 4 (feedPlace (countsIn file) feed)
+    (unless (within 1 2 (meaning file feed)) 5 (feedPlace (countsIn file) feed) sound)
 
 -- The row table starts at 0, never falls, ends at m.
 unfoldable pub rowStartsOrKeeps : List ℕ → ℕ → Bool
@@ -33,7 +35,7 @@ unfoldable pub rowRuled : List ℕ → ℕ → Bool
 rowRuled file entry = rowStartsOrKeeps file entry && rowEnds file entry
 
 unfoldable pub rowFault : List ℕ → ℕ → Fault
-rowFault file entry = unless (rowRuled file entry) 6 (entryPlace entry) sound
+rowFault file entry = unless (rowRuled file entry) 6 (entryPlace (countsIn file) entry) sound
 
 -- Links in file order: the first of a row has none before it that counts, any other has the one before it.
 abbrev pub beforeIn : List ℕ → ℕ → ℕ → code.Before
@@ -54,7 +56,8 @@ tablesFault file =
 
 -- the first fault of a file: 1, 2, 3, then feeds, rows, links
 unfoldable pub fileFault : List ℕ → Fault
-fileFault file = unless (marked file) 1 markPlace (unless (countsFit file) 2 countsPlace (unless (laidOut file) 3 offsetsPlace (tablesFault file)))
+fileFault file =
+    unless (marked file) 1 markPlace (unless (countsFit file) 2 (countsPlace file) (unless (laidOut file) 3 (offsetsPlace file) (tablesFault file)))
 
 -- the verdict on a file
 unfoldable pub checked : List ℕ → Verdict

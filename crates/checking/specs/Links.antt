@@ -26,5 +26,5 @@ linkRuled counts owner before link =
 -- 7, 8, 9 in each, by the link's number
 unfoldable pub linkFault : Counts → ℕ → code.Before → Link → ℕ → Fault
 linkFault counts owner before link number =
-    unless (linkRuled counts owner before link) 7 (linkPlace number)
-    (unless (known (classOf (link .kind))) 8 (linkPlace number) (unless (leb (link .day) lastDay) 9 (linkPlace number) sound))
+    unless (linkRuled counts owner before link) 7 (linkPlace counts number)
+    (unless (known (classOf (link .kind))) 8 (linkPlace counts number) (unless (leb (link .day) lastDay) 9 (linkPlace counts number) sound))

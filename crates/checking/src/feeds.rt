@@ -33,11 +33,11 @@ fn feed_ruled(file: &[u8], feed: usize) -> bool
 }
 
 // One feed: 4 before 5.
-fn feed_fault(file: &[u8], feed: usize) -> Fault
-    requires { ⌜ (feed < mostFeeds) × (feedAt feed + feedSize ≤ length (now file)) ⌝ }
+fn feed_fault(file: &[u8], counts: Counts, feed: usize) -> Fault
+    requires { ⌜ (Laid (now file) counts) × (feed < counts .feeds) ⌝ }
     ensures { λ r. ⌜ faultSaid r ≡ feedFault (now (file .entry)) feed ⌝ }
 {
-    let place = places::of_feed(feed);
+    let place = places::of_feed(counts, feed);
     if !feed_ruled(file, feed) {
         return Fault::At(4, place);
     }
@@ -55,7 +55,7 @@ pub fn feeds_fault(file: &[u8], counts: Counts) -> Fault
     let feeds = counts.feeds;
     let mut feed = 0;
     while feed < feeds {
-        if let Fault::At(number, place) = feed_fault(file, feed) {
+        if let Fault::At(number, place) = feed_fault(file, counts, feed) {
             return Fault::At(number, place);
         }
         feed += 1;

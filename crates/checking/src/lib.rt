@@ -4,7 +4,7 @@
 // very part of the lent file that a person's links occupy. The rules of a link are over links by value, wherever they stand; what a
 // refusal's place is stands in `places` and in specs/Places alone.
 mod feeds;
-pub mod links;
+mod links;
 mod places;
 mod rows;
 
@@ -58,13 +58,13 @@ pub fn check(file: &[u8]) -> Verdict
     if !header::counts_fit(file) {
         return Verdict::Refused {
             number: 2,
-            place: places::COUNTS,
+            place: places::of_counts(file),
         };
     }
     if !header::laid_out(file) {
         return Verdict::Refused {
             number: 3,
-            place: places::OFFSETS,
+            place: places::of_offsets(file),
         };
     }
     let counts = header::counts(file);

@@ -9,7 +9,7 @@ use format::rows;
 use refusals::Fault;
 ghost use mathlib.Core.Path.{_≡_};
 ghost use Prim.Native.Nat.{_≤_};
-ghost use Rattle.ways.specs.Sizes.{mostLinks};
+ghost use Rattle.ways.specs.Sizes.{mostPersons, mostLinks, mostFeeds};
 ghost use Rattle.refusals.specs.Faults.{faultSaid, firstAmong};
 ghost use Rattle.format.specs.Format.{personCount};
 ghost use Rattle.checking.specs.Links.{rises, linkRuled, linkFault};
@@ -47,10 +47,10 @@ fn link_ruled(counts: Counts, owner: usize, before: Before, link: Link) -> bool
 
 // One link, 7, 8, 9: as the link of this number among the owner's.
 pub fn link_fault(counts: Counts, owner: usize, before: Before, link: Link, number: usize) -> Fault
-    requires { ⌜ number ≤ mostLinks ⌝ }
+    requires { ⌜ (counts .persons ≤ mostPersons) × (counts .feeds ≤ mostFeeds) × (number ≤ mostLinks) ⌝ }
     ensures { λ r. ⌜ faultSaid r ≡ linkFault counts owner before link number ⌝ }
 {
-    let place = places::of_link(number);
+    let place = places::of_link(counts, number);
     if !link_ruled(counts, owner, before, link) {
         return Fault::At(7, place);
     }

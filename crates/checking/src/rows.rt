@@ -43,7 +43,7 @@ fn row_fault(file: &[u8], counts: Counts, at: usize) -> Fault
     ensures { λ r. ⌜ faultSaid r ≡ rowFault (now (file .entry)) at ⌝ }
 {
     if !row_ruled(file, counts, at) {
-        return Fault::At(6, places::of_entry(at));
+        return Fault::At(6, places::of_entry(counts, at));
     }
     Fault::Sound
 }

@@ -14,12 +14,17 @@ returns c = rw (← c .before .marked .ensures, not-true (c .before .marked .res
 counts-fit-requires : tie.Need-counts-fit-requires
 counts-fit-requires c κs = marked-long (c .before .before .before .args .file .now) (sym (c .before .marked .ensures) ∙ not-false (c .before .marked .result) (c .if1 .left))
 
+of-counts-requires : tie.Need-of-counts-requires
+of-counts-requires c κs =
+    let at-marked = c .before .before .before .marked in
+    marked-long (c .before .before .before .before .before .args .file .now) (sym (at-marked .ensures) ∙ not-false (at-marked .result) (c .before .before .if1 .left))
+
 returns-2 : tie.Need-returns-2
 unfolding checked fileFault
 returns-2 c =
-    let at-marked = c .before .before .before .marked in
-    let at-counts-fit = c .before .counts-fit in
-    rw (← at-marked .ensures, not-false (at-marked .result) (c .before .before .if1 .left), ← at-counts-fit .ensures, not-true (at-counts-fit .result) (c .if2 .taken))
+    let at-marked = c .before .before .before .before .marked in
+    let at-counts-fit = c .before .before .counts-fit in
+    rw (← at-marked .ensures, not-false (at-marked .result) (c .before .before .before .if1 .left), ← at-counts-fit .ensures, not-true (at-counts-fit .result) (c .before .if2 .taken), c .of-counts .ensures)
 
 laid-out-requires : tie.Need-laid-out-requires
 laid-out-requires c κs =
@@ -27,13 +32,19 @@ laid-out-requires c κs =
     let at-counts-fit = c .before .counts-fit in
     (sym (at-marked .ensures) ∙ not-false (at-marked .result) (c .before .before .if1 .left), sym (at-counts-fit .ensures) ∙ not-false (at-counts-fit .result) (c .if2 .left))
 
+of-offsets-requires : tie.Need-of-offsets-requires
+of-offsets-requires c κs =
+    let at-marked = c .before .before .before .before .before .marked in
+    let at-counts-fit = c .before .before .before .counts-fit in
+    (sym (at-marked .ensures) ∙ not-false (at-marked .result) (c .before .before .before .before .if1 .left), sym (at-counts-fit .ensures) ∙ not-false (at-counts-fit .result) (c .before .before .if2 .left))
+
 returns-3 : tie.Need-returns-3
 unfolding checked fileFault
 returns-3 c =
-    let at-marked = c .before .before .before .before .before .marked in
-    let at-counts-fit = c .before .before .before .counts-fit in
-    let at-laid-out = c .before .laid-out in
-    rw (← at-marked .ensures, not-false (at-marked .result) (c .before .before .before .before .if1 .left), ← at-counts-fit .ensures, not-false (at-counts-fit .result) (c .before .before .if2 .left), ← at-laid-out .ensures, not-true (at-laid-out .result) (c .if3 .taken))
+    let at-marked = c .before .before .before .before .before .before .marked in
+    let at-counts-fit = c .before .before .before .before .counts-fit in
+    let at-laid-out = c .before .before .laid-out in
+    rw (← at-marked .ensures, not-false (at-marked .result) (c .before .before .before .before .before .if1 .left), ← at-counts-fit .ensures, not-false (at-counts-fit .result) (c .before .before .before .if2 .left), ← at-laid-out .ensures, not-true (at-laid-out .result) (c .before .if3 .taken), c .of-offsets .ensures)
 
 counts-requires : tie.Need-counts-requires
 counts-requires c κs =
@@ -67,5 +78,5 @@ returns-5 c =
 pub check-spec : {M : Type 1} → statement M
 check-spec =
     tie.close
-    (tie.spec (λ c κs. search needs) returns counts-fit-requires returns-2 laid-out-requires returns-3 counts-requires (λ c κs. search needs)
+    (tie.spec (λ c κs. search needs) returns counts-fit-requires of-counts-requires returns-2 laid-out-requires of-offsets-requires returns-3 counts-requires (λ c κs. search needs)
     (λ c. search needs) returns-4 (λ c. search needs) (λ c. search needs) (λ c. search needs) (λ c. search needs) returns-5)

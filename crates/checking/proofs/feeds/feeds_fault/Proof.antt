@@ -11,10 +11,10 @@ use Rattle.checking.proofs.feeds.feeds_fault.Statement.{statement}
 use Rattle.checking.proofs.feeds.feeds_fault.Tie as tie
 
 abbrev Inv-loop : tie.InvT-loop
-Inv-loop file feeds feed₀ feed = Looking (feedFault file) (firstAmong (feedFault file) 0 (feedCount file)) feed feeds
+Inv-loop file counts feeds feed₀ feed = Looking (feedFault file) (firstAmong (feedFault file) 0 (feedCount file)) feed feeds
 
 abbrev μ-loop : tie.MeasureT-loop
-μ-loop file feeds feed₀ feed = feeds - feed
+μ-loop file counts feeds feed₀ feed = feeds - feed
 
 loop-holds : tie.Need-loop-holds Inv-loop μ-loop
 loop-holds c = look-starts (feedFault (c .before .args .file .now)) 0 (feedCount (c .before .args .file .now)) (omega arith)

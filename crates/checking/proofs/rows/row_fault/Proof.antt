@@ -1,5 +1,6 @@
 -- `row_fault` meets its contract: the rule decides.
 use borrow.Author.Tests.{not-true, not-false}
+use Rattle.format.proofs.Counted.{counts-are}
 use Rattle.checking.specs.Checked.{rowFault}
 use borrow.Author.Needs.{needs}
 use Rattle.checking.proofs.rows.row_fault.Statement.{statement}
@@ -7,7 +8,7 @@ use Rattle.checking.proofs.rows.row_fault.Tie as tie
 
 returns : tie.Need-returns
 unfolding rowFault
-returns c = rw (← c .before .before .row-ruled .ensures, not-true (c .before .before .row-ruled .result) (c .before .if1 .taken), c .of-entry .ensures)
+returns c = rw (← c .before .before .row-ruled .ensures, not-true (c .before .before .row-ruled .result) (c .before .if1 .taken), c .of-entry .ensures, counts-are (c .before .before .before .before .pre .0))
 
 returns-2 : tie.Need-returns-2
 unfolding rowFault
