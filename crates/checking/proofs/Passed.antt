@@ -69,8 +69,8 @@ passed-rules file e =
     record { marks = s .marks; fits = s .fits; lays = s .lays; tables = s .tables; persons = v .persons; links = v .links; feeds = v .feeds }
 
 -- the same by the answer of `check`
-pub verdict-said : {file : List ℕ} {answer : code.Verdict} {n m f : ℕ} → Checks file answer → answer ≡ code.the-variants.Passed n m f → Verdicts file n m f
-verdict-said {file} checks is = passed-verdict file (sym checks ∙ ap verdictSaid is)
+pub faultless-said : {file : List ℕ} {answer : code.Verdict} {n m f : ℕ} → Checks file answer → answer ≡ code.the-variants.Passed n m f → Verdicts file n m f
+faultless-said {file} checks is = passed-verdict file (sym checks ∙ ap verdictSaid is)
 
 pub refused-said : (file : List ℕ) {answer : code.Verdict} {number place : ℕ} → Checks file answer → answer ≡ code.the-variants.Refused number place → fileFault file ≡ fault number place
 refused-said file checks is = refused-verdict file (sym checks ∙ ap verdictSaid is)
