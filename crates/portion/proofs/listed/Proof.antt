@@ -46,7 +46,7 @@ list-requires c κs =
     let a = asked-answerable (at-start .args .file .now) (at-start .args .question) (at-start .pre .asked) in
     record {
       graph = at-fill .ensures .compact;
-      source = a .from;
+      source = omega (arith, a .from);
       target = a .to;
       some = a .proper .some;
       few = a .proper .most;
