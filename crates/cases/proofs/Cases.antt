@@ -49,6 +49,7 @@ every-case-holds =
     and (refl, refl, refl, refl, refl, λ lent. refl)
     and (refl, refl, refl, refl, refl, λ lent. refl)
     and (refl, refl, (λ lent. refl), refl, refl)
+    and (refl, refl)
     and tt
 
 -- person 1, the second record for a bookmark, 50 working cells and 20 for the output

@@ -1,4 +1,4 @@
--- The cases P1 to P12 of the customer's document: one table, and one statement about the definitions. Definitions only.
+-- The cases P1 to P12 of the customer's document, and those of the requests: one table, and one statement about the definitions. Definitions only.
 use mathlib.Core.Path.{_≡_}
 use mathlib.Core.Bool.{Bool, true, false}
 use mathlib.Core.List.{List, [], _∷_, _++_}
@@ -82,25 +82,25 @@ halfRecords =
     ++ (2 ∷ 1 ∷ 3 ∷ 5 ∷ 0 ∷ 0 ∷ 0 ∷ 0 ∷ 0 ∷ 0 ∷ [])
     ++ (2 ∷ 2 ∷ 3 ∷ 5 ∷ 0 ∷ 0 ∷ 0 ∷ 0 ∷ 0 ∷ 0 ∷ [])
 
--- the table; a question is Q, or says hops, classes, meaning, first day and last day
+-- the table; a question is Q, or says hops, classes, meaning, first day, last day and whether undated links are admitted
 unfoldable pub table : List Case
 table =
     -- P1 Q: (0 1 3 5), (0 2 1 3 5), (0 2 3 5).
     listingIs Q (first ∷ second ∷ third ∷ [])
     -- P2 hops 3: the first and third.
-    ∷ listingIs (ask 3 15 1 1 3652059) (first ∷ third ∷ [])
+    ∷ listingIs (ask 3 15 1 1 3652059 1) (first ∷ third ∷ [])
     -- P3 hops 2: none.
-    ∷ listingIs (ask 2 15 1 1 3652059) []
+    ∷ listingIs (ask 2 15 1 1 3652059 1) []
     -- P4 classes 1: (0 1 3 5).
-    ∷ listingIs (ask 4 1 1 1 3652059) (first ∷ [])
+    ∷ listingIs (ask 4 1 1 1 3652059 1) (first ∷ [])
     -- P5 meaning 2: none.
-    ∷ listingIs (ask 4 15 2 1 3652059) []
+    ∷ listingIs (ask 4 15 2 1 3652059 1) []
     -- P6 first day 700001: the last two of P1.
-    ∷ listingIs (ask 4 15 1 700001 3652059) (second ∷ third ∷ [])
+    ∷ listingIs (ask 4 15 1 700001 3652059 1) (second ∷ third ∷ [])
     -- P7 last day 700400: as P1.
-    ∷ listingIs (ask 4 15 1 1 700400) (first ∷ second ∷ third ∷ [])
+    ∷ listingIs (ask 4 15 1 1 700400 1) (first ∷ second ∷ third ∷ [])
     -- P8 last day 700399: none.
-    ∷ listingIs (ask 4 15 1 1 700399) []
+    ∷ listingIs (ask 4 15 1 1 700399 1) []
     -- P9 room 2: two chains, not ended.
     ∷ portionIs Q 2 fresh 2 false (first ∷ second ∷ []) (firstRecord ++ secondRecord)
     -- P10 room 2, after (0 2 1 3 5): (0 2 3 5), ended.
@@ -109,4 +109,6 @@ table =
     ∷ portionIs Q 3 fresh 3 true (first ∷ second ∷ third ∷ []) (firstRecord ++ secondRecord ++ thirdRecord)
     -- P12 half chains: (5), (3 5), (4 5), (1 3 5), (2 3 5). 50 working cells do; 49 give 18.
     ∷ halvesAre Q ((5 ∷ []) ∷ (3 ∷ 5 ∷ []) ∷ (4 ∷ 5 ∷ []) ∷ (1 ∷ 3 ∷ 5 ∷ []) ∷ (2 ∷ 3 ∷ 5 ∷ []) ∷ []) halfRecords 50 49
+    -- With 0, first day 700001 on the six-person file lists nothing.
+    ∷ listingIs (ask 4 15 1 700001 3652059 0) []
     ∷ []

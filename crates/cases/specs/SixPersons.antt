@@ -54,11 +54,11 @@ links =
 unfoldable pub six : List ℕ
 six = header ++ feeds ++ rows ++ links
 
--- from 0 to 5, and the five numbers that the cases change
-abbrev pub ask : ℕ → ℕ → ℕ → ℕ → ℕ → Question
-ask hops classes meaning first last =
-    record { from = 0; to = 5; hops = hops; classes = classes; meaning = meaning; first = first; last = last }
+-- from 0 to 5, and the six numbers that the cases change
+abbrev pub ask : ℕ → ℕ → ℕ → ℕ → ℕ → ℕ → Question
+ask hops classes meaning first last undated =
+    record { from = 0; to = 5; hops = hops; classes = classes; meaning = meaning; first = first; last = last; undated = undated }
 
--- "Q is 0 to 5, hops 4, classes 15, meaning 1, days 1 to 3,652,059."
+-- "Q is 0 to 5, hops 4, classes 15, meaning 1, days 1 to 3,652,059.", and undated links are admitted
 abbrev pub Q : Question
-Q = ask 4 15 1 1 3652059
+Q = ask 4 15 1 1 3652059 1

@@ -10,7 +10,7 @@ use lib.ListN.{length}
 use Rattle.question.specs.declared.Question.{Question}
 use Rattle.chains.specs.Program.{questionSize, questionIn, asks, refused, heardIn}
 
--- 28 bytes at least, where there is a question; and it is the one in the input
+-- 32 bytes at least, where there is a question; and it is the one in the input
 pub asks-what : (bytes : List ℕ) {q : Question} → asks q ≡ heardIn bytes → (questionSize ≤ length bytes) × (q ≡ questionIn bytes)
 asks-what bytes {q} e = go (ltb (length bytes) questionSize) refl e
   where

@@ -13,9 +13,9 @@ use Rattle.portion.specs.Listing.{listingFor}
 use Rattle.text.specs.Lines.{chainLines, endLine, refusalLine}
 use Rattle.chains.specs.declared.reading.Input as code
 
--- "seven 32-bit numbers": 28 bytes
+-- "The program's question becomes 32 bytes, and 01's 28 reads 32.": eight 32-bit numbers
 abbrev pub questionSize : ℕ
-questionSize = 28
+questionSize = 32
 
 -- "the question in the order above"
 abbrev pub questionIn : List ℕ → Question
@@ -27,6 +27,7 @@ questionIn input = record {
   meaning = number32 input 16;
   first = number32 input 20;
   last = number32 input 24;
+  undated = number32 input 28;
 }
 
 -- what is heard: a question, or a refusal with its number and place
@@ -39,7 +40,7 @@ abbrev pub inputSaid : code.Input → Heard
 inputSaid (code.the-variants.Asks q) = asks q
 inputSaid (code.the-variants.Refused number place) = refused number place
 
--- 19: "program: input under 28 bytes", place 0; "19 precedes all"
+-- 19: "program: input under 28 bytes", which reads 32, place 0; "19 precedes all"
 abbrev pub heardIn : List ℕ → Heard
 heardIn input = cond (ltb (length input) questionSize) (refused 19 0) (asks (questionIn input))
 
@@ -49,7 +50,7 @@ abbrev pub textFor : Fault → List (List ℕ) → ℕ → List ℕ
 textFor sound chains before = chainLines chains ++ endLine (before + length chains)
 textFor (fault number place) chains before = refusalLine number place
 
--- "reads from standard input seven 32-bit numbers, the question in the order above, then the file": all that is printed for such an input
+-- "reads from standard input" the question, eight numbers now, "then the file": all that is printed for such an input
 abbrev pub printed : List ℕ → List ℕ
 printed input =
     cond (ltb (length input) questionSize) (refusalLine 19 0)
@@ -59,7 +60,7 @@ printed input =
 abbrev pub longestFile : ℕ
 longestFile = 53348
 
--- "Of a longer input it takes 28 + 53,349 bytes": what is printed for what stands on standard input. The cut changes nothing, whatever
+-- "Of a longer input it takes 28 + 53,349 bytes", where 28 reads 32: what is printed for what stands on standard input. The cut changes nothing, whatever
 -- follows: the law `cut-same` of proofs/Cut.
 abbrev pub longestInput : ℕ
 longestInput = questionSize + (longestFile + 1)

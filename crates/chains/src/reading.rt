@@ -5,7 +5,7 @@ ghost use mathlib.Core.Path.{_≡_};
 ghost use Rattle.chains.specs.Program.{heardIn, inputSaid};
 
 // The bytes of a question.
-pub const QUESTION: usize = 28;
+pub const QUESTION: usize = 32;
 
 pub enum Input {
     Asks(Question),
@@ -29,5 +29,6 @@ pub fn heard(input: &[u8]) -> Input
         meaning: number32(input, 16),
         first: number32(input, 20),
         last: number32(input, 24),
+        undated: number32(input, 28),
     })
 }

@@ -13,10 +13,10 @@ use Rattle.question.specs.Asked.{askedFault}
 use Rattle.question.proofs.Numbered.{asked-numbered}
 use Rattle.join.specs.Lists.{halvesFor, joinFault}
 
-pub join-numbered : (file : List ℕ) (q : Question) (working out : List ℕ) → Numbered 18 (joinFault file q working out)
+pub join-numbered : (file : List ℕ) (q : Question) (working out : List ℕ) → Numbered 20 (joinFault file q working out)
 join-numbered file q working out =
-    numbered-first 18 (askedFault file q) (unless (leb recordSize (length out)) 16 0 last) (numbered-more 15 18 (omega arith) (askedFault file q) (asked-numbered file q))
-    (numbered-unless 18 (leb recordSize (length out)) 16 0 last (omega arith, omega arith, omega arith) (numbered-unless 18 (halvesFit recordSize (length working) (halvesFor file q)) 18 0 sound (omega arith, omega arith, omega arith) tt))
+    numbered-first 20 (askedFault file q) (unless (leb recordSize (length out)) 16 0 last) (asked-numbered file q)
+    (numbered-unless 20 (leb recordSize (length out)) 16 0 last (omega arith, omega arith, omega arith) (numbered-unless 20 (halvesFit recordSize (length working) (halvesFor file q)) 18 0 sound (omega arith, omega arith, omega arith) tt))
   where
     last : Fault
     last = unless (halvesFit recordSize (length working) (halvesFor file q)) 18 0 sound

@@ -23,7 +23,6 @@ use Rattle.portion.specs.Listing.{listingFor, portionFault, portionFor, endedFo
 use Rattle.listing.specs.Portions.{Start, startsAfter}
 use Rattle.refusals.specs.Answers.{answerSaid, answerFor}
 use Rattle.refusals.specs.declared.Answer as code
-use Rattle.refusals.proofs.Numbered.{numbered-more}
 use Rattle.portion.proofs.Instance.{portion-numbered}
 use Rattle.join.specs.Lists as lists
 use Rattle.join.specs.Answers.{Joins}
@@ -40,23 +39,23 @@ ended-few true = omega arith
 ended-few false = omega arith
 
 -- by the answers
-pub fewest-refused : (file : List ℕ) (q : Question) (person : ℕ) {answer : distance-code.HopsAnswer} {number place : ℕ} → distance.FewestHops file q person answer → answer ≡ distance-code.the-variants.Refused number place → number ≤ 15
+pub fewest-refused : (file : List ℕ) (q : Question) (person : ℕ) {answer : distance-code.HopsAnswer} {number place : ℕ} → distance.FewestHops file q person answer → answer ≡ distance-code.the-variants.Refused number place → number ≤ 20
 unfolding distance.answered
 fewest-refused file q person {number = number} {place} is e = go (firstOf (fileFault file) (personFault (personCount file) q person)) (fewest (next file q) (q .to) (q .hops) person) (person-numbered file q person) (sym is ∙ ap distance.hopsSaid e)
   where
-    go : (f : Fault) (h : ℕ) → Numbered 15 f → distance.unlessRefused f h ≡ distance.refused number place → number ≤ 15
+    go : (f : Fault) (h : ℕ) → Numbered 20 f → distance.unlessRefused f h ≡ distance.refused number place → number ≤ 20
     go sound h i e = let z : _≡_ {A = ℕ} 0 1 = cc in absurd (omega arith)
     go (fault r p) h i e = let same : r ≡ number = cc in omega (arith, i .1)
 
 -- an answer has room in 64 bits if its numbers have
-answer-small : (f : Fault) (n : ℕ) (ended : Bool) → Numbered 18 f → n < 2 ^ 62 → Small (answerFor f n ended)
+answer-small : (f : Fault) (n : ℕ) (ended : Bool) → Numbered 20 f → n < 2 ^ 62 → Small (answerFor f n ended)
 answer-small sound n ended i h = h
 answer-small (fault number place) n ended i h = (i .1, i .2)
 
 pub portion-small : (file : List ℕ) (q : Question) {start : Start} {out out′ : List ℕ} {answer : code.Answer} → Portioned file q start out out′ answer → length out < 2 ^ 62 → Small (answerSaid answer)
 portion-small file q {start} {out} p h =
     let few : length (portionFor file q start out) < 2 ^ 62 = omega (arith, length-take (roomOf recordSize (length out)) (after (startsAfter start) (listingFor file q))) in
-    subst Small (sym (p .answers)) (answer-small (portionFault file q start out) (length (portionFor file q start out)) (endedFor file q start out) (numbered-more 17 18 (omega arith) (portionFault file q start out) (portion-numbered file q start out)) few)
+    subst Small (sym (p .answers)) (answer-small (portionFault file q start out) (length (portionFor file q start out)) (endedFor file q start out) (portion-numbered file q start out) few)
 
 pub join-small : {file : List ℕ} {q : Question} {working working′ out out′ : List ℕ} {answer : code.Answer} → Joins file q working working′ out out′ answer → length out < 2 ^ 62 → Small (answerSaid answer)
 join-small {file} {q} {working} {out = out} p h =

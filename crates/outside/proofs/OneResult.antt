@@ -1,11 +1,10 @@
--- One result only: any two results that the promise of an exported function allows are equal, the number and every lent cell.
-use mathlib.Core.Path.{_≡_, refl, sym, ap, _∙_}
+-- One result only: any two results that the promise of an exported function allows are equal, the number and every lent cell. So a held listing
+-- that was stored before has the result of today's with undated 1.
+use mathlib.Core.Path.{_≡_, refl, sym, ap, subst, _∙_}
 use mathlib.Core.Bool.{Bool, true, false}
 use mathlib.Core.List.{List}
 use Prim.Native.Nat.{ℕ}
 use lib.ListN.{length}
-use lib.Dec.{eqb}
-use borrow.Author.Tests.{eqb-true, eqb-false}
 use Rattle.question.specs.declared.Question.{Question}
 use Rattle.listing.specs.Portions.{Start}
 use Rattle.refusals.specs.Answers.{answerSaid}
@@ -14,7 +13,10 @@ use Rattle.listing.proofs.OneResult.{portion-one}
 use Rattle.held.proofs.OneResult.{held-one}
 use Rattle.join.proofs.OneResult.{join-one}
 use Rattle.outside.specs.Encoded.{listedNumber, CheckNumber, RowNumber, FewestNumber, PortionNumber, JoinNumber}
-use Rattle.outside.specs.HeldCells.{heldSize, heldCells, HeldNumber}
+use Rattle.outside.specs.HeldCells.{heldWhole, heldCells, MovedCells, HeldNumber, asToday, storedSize}
+use Rattle.held.specs.declared.Held.{Held}
+use Rattle.held.specs.Holding.{MovedOn}
+use Rattle.outside.proofs.HeldCells.{today-long, held-today, cells-today}
 
 pub kin-check-one : (file : List ℕ) {a b : ℕ} → CheckNumber file a → CheckNumber file b → a ≡ b
 kin-check-one file one other = one ∙ sym other
@@ -39,17 +41,39 @@ kin-join-one p r = let e = join-one (p .joins) (r .joins) in (same-number (p .an
 
 pub kin-held-one : {file cells cells₁ cells₂ out out₁ out₂ : List ℕ} {a b : ℕ}
     → HeldNumber file cells cells₁ out out₁ a → HeldNumber file cells cells₂ out out₂ b → (a ≡ b) × (cells₁ ≡ cells₂) × (out₁ ≡ out₂)
-kin-held-one {cells = cells} {cells₁} {cells₂} {out} {out₁} {out₂} {a} {b} p r = go (eqb (length cells) heldSize) refl
+kin-held-one {cells = cells} {cells₁} {cells₂} {out} {out₁} {out₂} {a} {b} p r = go (heldWhole (length cells)) refl
   where
-    go : (is18 : Bool) → eqb (length cells) heldSize ≡ is18 → (a ≡ b) × (cells₁ ≡ cells₂) × (out₁ ≡ out₂)
+    go : (whole : Bool) → heldWhole (length cells) ≡ whole → (a ≡ b) × (cells₁ ≡ cells₂) × (out₁ ≡ out₂)
     go true e =
-        let whole = eqb-true (length cells) heldSize e in
-        let m = p .moved whole in
-        let n = r .moved whole in
+        let m = p .moved e in
+        let n = r .moved e in
         let same = held-one (m .moves) (n .moves) in
         (same-number (m .answer) (n .answer) (same .0) (m .answers) (n .answers), m .keeps ∙ ap (heldCells cells) (same .1) ∙ sym (n .keeps), same .2)
     go false e =
-        let wrong = eqb-false (length cells) heldSize e in
-        let m = p .wrongSize wrong in
-        let n = r .wrongSize wrong in
+        let m = p .wrongSize e in
+        let n = r .wrongSize e in
         (m .0 ∙ sym (n .0), m .1 ∙ sym (n .1), m .2 ∙ sym (n .2))
+
+-- a call on a held listing stored before is a call on today's with undated 1, and leaves the same cells but for that one
+module _ {file cells cells′ out out′ : List ℕ} {number : ℕ} (stored : length cells ≡ storedSize) where
+  moved-today : MovedCells file cells cells′ out out′ number → MovedCells file (asToday cells) (asToday cells′) out out′ number
+  moved-today m =
+      record {
+        answer = m .answer;
+        held = m .held;
+        moves = subst (λ (held : Held). MovedOn file held (m .held) out out′ (m .answer)) (sym (held-today cells stored)) (m .moves);
+        small = m .small;
+        answers = m .answers;
+        keeps = ap asToday (m .keeps) ∙ sym (cells-today cells stored (m .held));
+      }
+
+  number-today : HeldNumber file cells cells′ out out′ number → HeldNumber file (asToday cells) (asToday cells′) out out′ number
+  number-today h =
+      record {
+        wrongSize = λ wrong. let z : true ≡ false = rw (today-long cells stored) at wrong in absurd (not-false-true z);
+        moved = λ whole. moved-today (h .moved (rw stored));
+      }
+
+pub stored-as-today : {file cells cells′ today out out′ other : List ℕ} {a b : ℕ} → length cells ≡ storedSize → HeldNumber file cells cells′ out out′ a → HeldNumber file (asToday cells) today out other b
+    → (b ≡ a) × (today ≡ asToday cells′) × (other ≡ out′)
+stored-as-today stored h t = kin-held-one t (number-today stored h)

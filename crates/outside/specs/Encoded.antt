@@ -15,10 +15,10 @@ use Rattle.listing.specs.Portions.{Start}
 use Rattle.refusals.specs.declared.Answer as code
 use Rattle.join.specs.Answers.{Joins}
 
--- the seven numbers of a question, in the customer's order
-abbrev pub asking : ℕ → ℕ → ℕ → ℕ → ℕ → ℕ → ℕ → Question
-asking from to hops classes meaning first last =
-    record { from = from; to = to; hops = hops; classes = classes; meaning = meaning; first = first; last = last }
+-- the eight numbers of a question, in the customer's order
+abbrev pub asking : ℕ → ℕ → ℕ → ℕ → ℕ → ℕ → ℕ → ℕ → Question
+asking from to hops classes meaning first last undated =
+    record { from = from; to = to; hops = hops; classes = classes; meaning = meaning; first = first; last = last; undated = undated }
 
 -- a refusal: 2^63 + number * 2^32 + place
 abbrev pub refusalNumber : ℕ → ℕ → ℕ
@@ -46,7 +46,7 @@ listedNumber (answers.refused number place) = refusalNumber number place
 -- an answer whose numbers have room in it
 abbrev pub Small : answers.Answer → Type 0
 Small (answers.listed count ended) = count < 2 ^ 62
-Small (answers.refused number place) = (number ≤ 18) × (place < 2 ^ 32)
+Small (answers.refused number place) = (number ≤ 20) × (place < 2 ^ 32)
 
 -- what each function answers, and the lent cells at exit: the promise of the operation behind it, its answer as a number
 abbrev pub CheckNumber : List ℕ → ℕ → Type 0

@@ -6,7 +6,7 @@ ghost use Prim.Native.Nat.{_<_, _^_};
 ghost use Rattle.refusals.specs.Answers.{answerSaid};
 ghost use Rattle.outside.specs.Encoded.{asking, Small, refusalNumber, listedNumber};
 
-// The seven numbers of a question, in the customer's order.
+// The eight numbers of a question, in the customer's order.
 pub fn asking(
     from: u32,
     to: u32,
@@ -15,8 +15,9 @@ pub fn asking(
     meaning: u32,
     first: u32,
     last: u32,
+    undated: u32,
 ) -> Question
-    ensures { λ r. ⌜ r ≡ asking from to hops classes meaning first last ⌝ }
+    ensures { λ r. ⌜ r ≡ asking from to hops classes meaning first last undated ⌝ }
 {
     Question {
         from,
@@ -26,6 +27,7 @@ pub fn asking(
         meaning,
         first,
         last,
+        undated,
     }
 }
 

@@ -1,22 +1,47 @@
-// A held listing in lent cells: the numbers of its question, started, the record.
+// A held listing in lent cells: the numbers of its question, started, the record. One that was stored before the question had its
+// eighth number has a cell less: it counts as 1, and the listing is moved on in the cells that it has.
 use crate::encoding::asking;
 use held::Held;
 use ways::RECORD;
 ghost use mathlib.Core.Path.{_≡_};
+ghost use Prim.Native.Nat.{_≤_};
 ghost use lib.ListN.{length};
-ghost use Rattle.outside.specs.HeldCells.{heldSize, heldOf, heldCells};
+ghost use Rattle.outside.specs.HeldCells.{heldSize, storedSize, heldWhole, undatedIn, heldOf, heldCells};
 
-// The numbers of a question.
-const NUMBERS: usize = 7;
+// The numbers of a question, and those of one stored before.
+const NUMBERS: usize = 8;
+const STORED_NUMBERS: usize = 7;
 
-// The cells of a held listing.
-pub const HELD: usize = NUMBERS + 1 + RECORD;
+// The cells of a held listing behind its question.
+const BEHIND: usize = 1 + RECORD;
+
+// The cells of a held listing, and of one stored before.
+const HELD: usize = NUMBERS + BEHIND;
+const STORED_HELD: usize = STORED_NUMBERS + BEHIND;
+
+// Whether so many cells are a held listing, of either form.
+pub fn is_held(cells: usize) -> bool
+    ensures { λ r. ⌜ r ≡ heldWhole cells ⌝ }
+{
+    cells == HELD || cells == STORED_HELD
+}
+
+// What the question says of undated links: where no cell says it, they count.
+fn undated_in(lent: &[u32]) -> u32
+    ensures { λ r. ⌜ r ≡ undatedIn (now (lent .entry)) ⌝ }
+{
+    if lent.len() == HELD {
+        return lent[STORED_NUMBERS];
+    }
+    1
+}
 
 // The held listing in its cells.
 pub fn held_of(lent: &[u32]) -> Held
-    requires { ⌜ length (now lent) ≡ heldSize ⌝ }
+    requires { ⌜ (storedSize ≤ length (now lent)) × (length (now lent) ≤ heldSize) ⌝ }
     ensures { λ r. ⌜ r ≡ heldOf (now (lent .entry)) ⌝ }
 {
+    let numbers = lent.len() - BEHIND;
     let question = asking(
         lent[0],
         lent[1],
@@ -25,20 +50,22 @@ pub fn held_of(lent: &[u32]) -> Held
         lent[4],
         lent[5],
         lent[6],
+        undated_in(lent),
     );
     Held {
         question,
-        started: lent[NUMBERS],
-        record: pages::record_at(lent, NUMBERS + 1),
+        started: lent[numbers],
+        record: pages::record_at(lent, numbers + 1),
     }
 }
 
 // A call changes started and the record at most; the question stays.
 pub fn keep(lent: &mut [u32], held: Held)
-    requires { ⌜ length (now lent) ≡ heldSize ⌝ }
+    requires { ⌜ (storedSize ≤ length (now lent)) × (length (now lent) ≤ heldSize) ⌝ }
     ensures { λ _. ⌜ now (lent .exit) ≡ heldCells (now (lent .entry)) held ⌝ }
 {
+    let numbers = lent.len() - BEHIND;
     let record = held.record;
-    lent[NUMBERS] = held.started;
-    pages::put(lent, NUMBERS + 1, record);
+    lent[numbers] = held.started;
+    pages::put(lent, numbers + 1, record);
 }

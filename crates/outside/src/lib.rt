@@ -9,8 +9,8 @@ use checking::Verdict;
 use encoding::asking;
 use encoding::listed_number;
 use encoding::refusal_number;
-use held_cells::HELD;
 use held_cells::held_of;
+use held_cells::is_held;
 use held_cells::keep;
 ghost use Rattle.listing.specs.Portions.{startSaid};
 ghost use Rattle.outside.specs.Encoded.{CheckNumber, RowNumber, FewestNumber, PortionNumber, JoinNumber, asking};
@@ -50,11 +50,12 @@ pub extern "C" fn kin_fewest(
     meaning: u32,
     first: u32,
     last: u32,
+    undated: u32,
     person: u32,
 ) -> u64
-    ensures { λ r. ⌜ FewestNumber (now (file .entry)) (asking from to hops classes meaning first last) person r ⌝ }
+    ensures { λ r. ⌜ FewestNumber (now (file .entry)) (asking from to hops classes meaning first last undated) person r ⌝ }
 {
-    let question = asking(from, to, hops, classes, meaning, first, last);
+    let question = asking(from, to, hops, classes, meaning, first, last, undated);
     match distance::fewest(file, question, person) {
         distance::HopsAnswer::Hops(fewest) => fewest as u64,
         distance::HopsAnswer::Refused { number, place } => refusal_number(number, place),
@@ -72,13 +73,14 @@ pub extern "C" fn kin_portion(
     meaning: u32,
     first: u32,
     last: u32,
+    undated: u32,
     started: u32,
     bookmark: &[u32],
     out: &mut [u32],
 ) -> u64
-    ensures { λ r. ⌜ PortionNumber (now (file .entry)) (asking from to hops classes meaning first last) (startSaid started (now (bookmark .entry))) (now (out .entry)) (now (out .exit)) r ⌝ }
+    ensures { λ r. ⌜ PortionNumber (now (file .entry)) (asking from to hops classes meaning first last undated) (startSaid started (now (bookmark .entry))) (now (out .entry)) (now (out .exit)) r ⌝ }
 {
-    let question = asking(from, to, hops, classes, meaning, first, last);
+    let question = asking(from, to, hops, classes, meaning, first, last, undated);
     listed_number(portion::portion(file, question, started, bookmark, out))
 }
 
@@ -93,22 +95,23 @@ pub extern "C" fn kin_join(
     meaning: u32,
     first: u32,
     last: u32,
+    undated: u32,
     working: &mut [u32],
     out: &mut [u32],
 ) -> u64
-    ensures { λ r. ⌜ JoinNumber (now (file .entry)) (asking from to hops classes meaning first last) (now (working .entry)) (now (working .exit)) (now (out .entry)) (now (out .exit)) r ⌝ }
+    ensures { λ r. ⌜ JoinNumber (now (file .entry)) (asking from to hops classes meaning first last undated) (now (working .entry)) (now (working .exit)) (now (out .entry)) (now (out .exit)) r ⌝ }
 {
-    let question = asking(from, to, hops, classes, meaning, first, last);
+    let question = asking(from, to, hops, classes, meaning, first, last, undated);
     listed_number(join::join(file, question, working, out))
 }
 
-// Moves a held listing on by a portion: 18 lent cells. Answers as kin_portion; with other than 18 cells it answers 2^63 before
-// anything else is looked at, and changes nothing.
+// Moves a held listing on by a portion: 19 lent cells, or 18 that were stored before the question had its eighth number. Answers as
+// kin_portion; with any other number of cells it answers 2^63 before anything else is looked at, and changes nothing.
 #[no_mangle]
 pub extern "C" fn kin_held(cells: &mut [u32], file: &[u8], out: &mut [u32]) -> u64
     ensures { λ r. ⌜ HeldNumber (now (file .entry)) (now (cells .entry)) (now (cells .exit)) (now (out .entry)) (now (out .exit)) r ⌝ }
 {
-    if cells.len() != HELD {
+    if !is_held(cells.len()) {
         return refusal_number(0, 0);
     }
     let before = held_of(cells);

@@ -38,5 +38,5 @@ module _ (file : List ℕ) (q : Question) where
       fits = listing-fits (next file q) (q .from) (q .to) (q .hops) recordSize (omega (arith, asked-answerable file q asked .proper .most));
     }
 
-  pub portion-numbered : (start : Start) (out : List ℕ) → Numbered 17 (portionFault file q start out)
-  portion-numbered start out = any.portion-numbered 17 (omega arith) (askedFault file q) (numbered-more 15 17 (omega arith) (askedFault file q) (asked-numbered file q)) (listingFor file q) start out
+  pub portion-numbered : (start : Start) (out : List ℕ) → Numbered 20 (portionFault file q start out)
+  portion-numbered start out = any.portion-numbered 20 (omega arith) (askedFault file q) (asked-numbered file q) (listingFor file q) start out

@@ -1,4 +1,4 @@
--- A question is refused with one of the numbers 1 to 15, the file's among them.
+-- A question is refused with one of the numbers 1 to 20, the file's among them.
 use mathlib.Core.Bool.{not}
 use mathlib.Core.List.{List}
 use Prim.Native.Nat.{ℕ}
@@ -14,15 +14,18 @@ use Rattle.ways.specs.Sizes.{mostHops}
 use Rattle.question.specs.declared.Question.{Question}
 use Rattle.question.specs.Asked.{daysFit, restFault, questionFault, personFault, askedFault, askedOfFault}
 
-rest-numbered : (q : Question) → Numbered 15 (restFault q)
+rest-numbered : (q : Question) → Numbered 20 (restFault q)
 unfolding restFault
 rest-numbered q =
-    numbered-unless 15 (not (eqb (q .from) (q .to))) 11 0 twelve (omega arith, omega arith, omega arith)
-    (numbered-unless 15 (within 1 mostHops (q .hops)) 12 0 thirteen (omega arith, omega arith, omega arith)
-    (numbered-unless 15 (within 1 15 (q .classes)) 13 0 fourteen (omega arith, omega arith, omega arith) (numbered-unless 15 (within 1 2 (q .meaning)) 14 0 fifteen (omega arith, omega arith, omega arith) (numbered-unless 15 (daysFit q) 15 0 sound (omega arith, omega arith, omega arith) tt))))
+    numbered-unless 20 (not (eqb (q .from) (q .to))) 11 0 twelve (omega arith, omega arith, omega arith)
+    (numbered-unless 20 (within 1 mostHops (q .hops)) 12 0 thirteen (omega arith, omega arith, omega arith)
+    (numbered-unless 20 (within 1 15 (q .classes)) 13 0 fourteen (omega arith, omega arith, omega arith) (numbered-unless 20 (within 1 2 (q .meaning)) 14 0 fifteen (omega arith, omega arith, omega arith) (numbered-unless 20 (daysFit q) 15 0 twenty (omega arith, omega arith, omega arith) (numbered-unless 20 (within 0 1 (q .undated)) 20 0 sound (omega arith, omega arith, omega arith) tt)))))
   where
+    twenty : Fault
+    twenty = unless (within 0 1 (q .undated)) 20 0 sound
+
     fifteen : Fault
-    fifteen = unless (daysFit q) 15 0 sound
+    fifteen = unless (daysFit q) 15 0 twenty
 
     fourteen : Fault
     fourteen = unless (within 1 2 (q .meaning)) 14 0 fifteen
@@ -34,17 +37,17 @@ rest-numbered q =
     twelve = unless (within 1 mostHops (q .hops)) 12 0 thirteen
 
 -- From, To, then whatever is looked at after them
-ends-numbered : (n : ℕ) (q : Question) (after : Fault) → Numbered 15 after → Numbered 15 (unless (ltb (q .from) n) 10 0 (unless (ltb (q .to) n) 10 1 after))
+ends-numbered : (n : ℕ) (q : Question) (after : Fault) → Numbered 20 after → Numbered 20 (unless (ltb (q .from) n) 10 0 (unless (ltb (q .to) n) 10 1 after))
 ends-numbered n q after h =
-    numbered-unless 15 (ltb (q .from) n) 10 0 (unless (ltb (q .to) n) 10 1 after) (omega arith, omega arith, omega arith) (numbered-unless 15 (ltb (q .to) n) 10 1 after (omega arith, omega arith, omega arith) h)
+    numbered-unless 20 (ltb (q .from) n) 10 0 (unless (ltb (q .to) n) 10 1 after) (omega arith, omega arith, omega arith) (numbered-unless 20 (ltb (q .to) n) 10 1 after (omega arith, omega arith, omega arith) h)
 
-pub asked-numbered : (file : List ℕ) (q : Question) → Numbered 15 (askedFault file q)
+pub asked-numbered : (file : List ℕ) (q : Question) → Numbered 20 (askedFault file q)
 unfolding questionFault
 asked-numbered file q =
-    numbered-first 15 (fileFault file) (questionFault (personCount file) q) (numbered-more 9 15 (omega arith) (fileFault file) (file-numbered file)) (ends-numbered (personCount file) q (restFault q) (rest-numbered q))
+    numbered-first 20 (fileFault file) (questionFault (personCount file) q) (numbered-more 9 20 (omega arith) (fileFault file) (file-numbered file)) (ends-numbered (personCount file) q (restFault q) (rest-numbered q))
 
-pub person-numbered : (file : List ℕ) (q : Question) (person : ℕ) → Numbered 15 (askedOfFault file q person)
+pub person-numbered : (file : List ℕ) (q : Question) (person : ℕ) → Numbered 20 (askedOfFault file q person)
 unfolding personFault
 person-numbered file q person =
-    numbered-first 15 (fileFault file) (personFault (personCount file) q person) (numbered-more 9 15 (omega arith) (fileFault file) (file-numbered file))
-    (ends-numbered (personCount file) q (unless (ltb person (personCount file)) 10 2 (restFault q)) (numbered-unless 15 (ltb person (personCount file)) 10 2 (restFault q) (omega arith, omega arith, omega arith) (rest-numbered q)))
+    numbered-first 20 (fileFault file) (personFault (personCount file) q person) (numbered-more 9 20 (omega arith) (fileFault file) (file-numbered file))
+    (ends-numbered (personCount file) q (unless (ltb person (personCount file)) 10 2 (restFault q)) (numbered-unless 20 (ltb person (personCount file)) 10 2 (restFault q) (omega arith, omega arith, omega arith) (rest-numbered q)))

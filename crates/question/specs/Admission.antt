@@ -1,7 +1,7 @@
 -- Which links are admitted, and whom they lead to. Definitions only.
 use mathlib.Core.Path.{_≡_}
 use mathlib.Core.List.{List, [], _∷_, map}
-use mathlib.Core.Bool.{Bool, true, false, _&&_, _||_, cond}
+use mathlib.Core.Bool.{Bool, true, false, _&&_, cond}
 use Prim.Native.Nat.{ℕ, zero, suc, _+_, _-_, _/_, _%_, _≤_, _<_}
 use lib.Dec.{eqb, ltb}
 use Rattle.format.specs.Numbers.{within}
@@ -16,9 +16,13 @@ abbrev pub inSum : Class → ℕ → Bool
 inSum (class c) sum = eqb (sum / c % 2) 1
 inSum unknown sum = false
 
--- "it is either undated or has a day from first to last, both included, from a feed whose meaning is the question's"
+-- "a day from first to last, both included, from a feed whose meaning is the question's"
+abbrev pub dayFits : List ℕ → Question → Link → Bool
+dayFits file q link = within (q .first) (q .last) (link .day) && eqb (meaning file (link .feed)) (q .meaning)
+
+-- an undated link counts if the question wants it: "1 to admit undated links, 0 to leave them out"; a dated one by its day
 unfoldable pub dayAdmitted : List ℕ → Question → Link → Bool
-dayAdmitted file q link = eqb (link .day) 0 || (within (q .first) (q .last) (link .day) && eqb (meaning file (link .feed)) (q .meaning))
+dayAdmitted file q link = cond (eqb (link .day) 0) (eqb (q .undated) 1) (dayFits file q link)
 
 -- "A link is admitted if its class is in the sum and" its day is
 unfoldable pub admitted : List ℕ → Question → ℕ → Bool

@@ -1,5 +1,6 @@
 -- A question, and when it is refused. Definitions only.
 -- "From, to, hops k (1 to 8), classes (a sum of classes, 1 to 15), date meaning (1 or 2), first day, last day."
+-- "The question gains an eighth number, 1 to admit undated links, 0 to leave them out."
 use mathlib.Core.List.{List}
 use mathlib.Core.Bool.{Bool, not, _&&_}
 use Prim.Native.Nat.{ℕ}
@@ -20,12 +21,13 @@ endsFault n q after = unless (ltb (q .from) n) 10 0 (unless (ltb (q .to) n) 10 1
 unfoldable pub daysFit : Question → Bool
 daysFit q = leb 1 (q .first) && leb (q .last) lastDay && leb (q .first) (q .last)
 
--- 11 From equals To; 12 hops; 13 classes; 14 question's meaning; 15 days
+-- 11 From equals To; 12 hops; 13 classes; 14 question's meaning; 15 days; "20 for any other number there, after 15 and before 16"
 unfoldable pub restFault : Question → Fault
 restFault q =
     unless (not (eqb (q .from) (q .to))) 11 0
     (unless (within 1 mostHops (q .hops)) 12 0
-    (unless (within 1 15 (q .classes)) 13 0 (unless (within 1 2 (q .meaning)) 14 0 (unless (daysFit q) 15 0 sound))))
+    (unless (within 1 15 (q .classes)) 13 0
+    (unless (within 1 2 (q .meaning)) 14 0 (unless (daysFit q) 15 0 (unless (within 0 1 (q .undated)) 20 0 sound)))))
 
 -- the question's own faults, to a file of n persons
 unfoldable pub questionFault : ℕ → Question → Fault

@@ -40,16 +40,19 @@ fn in_sum(kind: u8, classes: u32) -> bool
     }
 }
 
-// Whether a link is undated, or has a day of the window from a feed whose days mean what the question asks.
+// Whether a link is undated and the question wants undated links, or has a day of the window from a feed whose days mean what the
+// question asks.
 fn day_admitted(file: &[u8], question: Question, link: Link) -> bool
     requires { ⌜ (link .feed < mostFeeds) × (feedAt (link .feed) + feedSize ≤ length (now file)) ⌝ }
     ensures { λ r. ⌜ r ≡ dayAdmitted (now (file .entry)) question link ⌝ }
 {
+    if link.day == 0 {
+        return question.undated == 1;
+    }
     let feed = link.feed as usize;
-    link.day == 0
-        || (question.first <= link.day
-            && link.day <= question.last
-            && feeds::meaning(file, feed) == question.meaning)
+    question.first <= link.day
+        && link.day <= question.last
+        && feeds::meaning(file, feed) == question.meaning
 }
 
 // Whether a link of a file that passed is admitted.

@@ -1,4 +1,4 @@
-// The refusals of a question, 10 to 15. No test is written twice: the one question of a listing and the one of fewest hops, which
+// The refusals of a question, 10 to 15, then 20. No test is written twice: the one question of a listing and the one of fewest hops, which
 // names a person more, both begin with the ends and close with the rest.
 use crate::Question;
 use format::links::LAST_DAY;
@@ -32,7 +32,7 @@ fn days_fit(question: Question) -> bool
     1 <= question.first && question.last <= LAST_DAY && question.first <= question.last
 }
 
-// 11 to 15: what a question may ask, whatever the file.
+// 11 to 15, then 20: what a question may ask, whatever the file.
 fn rest_fault(question: Question) -> Fault
     ensures { λ r. ⌜ faultSaid r ≡ restFault question ⌝ }
 {
@@ -50,6 +50,9 @@ fn rest_fault(question: Question) -> Fault
     }
     if !days_fit(question) {
         return Fault::At(15, 0);
+    }
+    if !numbers::within(0, 1, question.undated) {
+        return Fault::At(20, 0);
     }
     Fault::Sound
 }

@@ -1,6 +1,6 @@
 // The question: what is asked of a file.
 //
-// Seven numbers, whoever sends them. This room stands in front of every operation that answers a question: it refuses a bad file, a bad
+// Eight numbers, whoever sends them. This room stands in front of every operation that answers a question: it refuses a bad file, a bad
 // question, a person who is not in the file and an output without room for a record, each with its number and place; it says which links
 // a question admits, and turns bytes into the compact graph that every later room sees: once a file and a question have passed, listing
 // and searching read `next` and no byte.
@@ -15,7 +15,7 @@ ghost use mathlib.Core.Path.{_≡_};
 ghost use Rattle.refusals.specs.Faults.{faultSaid};
 ghost use Rattle.question.specs.Asked.{askedFault, askedOfFault, askedRoomFault};
 
-// From, to, hops, classes, date meaning, first day, last day.
+// From, to, hops, classes, date meaning, first day, last day, and whether undated links count: 1 they do, 0 they are left out.
 pub struct Question {
     pub from: u32,
     pub to: u32,
@@ -24,9 +24,10 @@ pub struct Question {
     pub meaning: u32,
     pub first: u32,
     pub last: u32,
+    pub undated: u32,
 }
 
-// The first refusal of any bytes and any question: the file's own, 1 to 9, then the question's, 10 to 15.
+// The first refusal of any bytes and any question: the file's own, 1 to 9, then the question's, 10 to 15 and 20.
 fn asked(file: &[u8], question: Question) -> Fault
     ensures { λ r. ⌜ faultSaid r ≡ askedFault (now (file .entry)) question ⌝ }
 {

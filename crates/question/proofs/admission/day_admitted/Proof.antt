@@ -1,4 +1,4 @@
--- `day_admitted` meets its contract: undated, or in the window and of the meaning asked.
+-- `day_admitted` meets its contract: undated and wanted, or in the window and of the meaning asked.
 use mathlib.Core.Path.{_≡_}
 use mathlib.Core.Logic.{⊎-elim}
 use borrow.Author.Tests.{eq-eqb, ne-eqb, le-leb, lt-leb}
@@ -14,7 +14,7 @@ use Rattle.format.proofs.feeds.meaning.Reads as meaning-reads
 
 returns : tie.Need-returns
 unfolding dayAdmitted
-returns c = rw (eq-eqb _ 0 (c .if1 .taken))
+returns c = rw (eq-eqb _ 0 (c .before .if1 .taken))
 
 two : (c : lts.Joined2 (meaning-reads.Asked, meaning-reads.Learnt) reads.Pre reads.Post)
     → c .if2 .if3 ≡ within (c .before .before .before .before .before .before .before .args .question .first) (c .before .before .before .before .before .before .before .args .question .last) (c .before .before .before .before .before .before .before .args .link .day)
@@ -22,13 +22,13 @@ two c = ⊎-elim (λ w. met (le-leb _ _ (w .0 .taken)) (w .3)) (λ w. missed _ (
 
 returns-2 : tie.Need-returns-2
 unfolding dayAdmitted
-returns-2 c = rw (ne-eqb _ 0 (c .before .before .before .before .before .before .if1 .left), ← two (c .before .before .before), c .before .before .if3 .taken, ← c .before .meaning .ensures)
+returns-2 c = rw (ne-eqb _ 0 (c .before .before .before .before .before .before .before .if1 .left), ← two (c .before .before .before), c .before .before .if3 .taken, ← c .before .meaning .ensures)
 
 returns-3 : tie.Need-returns-3
 unfolding dayAdmitted
-returns-3 c = rw (ne-eqb _ 0 (c .before .before .before .before .if1 .left), ← two (c .before), c .if3 .left)
+returns-3 c = rw (ne-eqb _ 0 (c .before .before .before .before .before .if1 .left), ← two (c .before), c .if3 .left)
 
 pub day-admitted-spec : {M : Type 1} → statement M
 day-admitted-spec =
     tie.close
-    (tie.spec (λ c. search needs) (λ c κs. search needs) returns returns-2 returns-3)
+    (tie.spec returns (λ c. search needs) (λ c κs. search needs) returns-2 returns-3)

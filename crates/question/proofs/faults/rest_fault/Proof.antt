@@ -1,4 +1,4 @@
--- `rest_fault` meets its contract: 11, 12, 13, 14, 15, in this order.
+-- `rest_fault` meets its contract: 11, 12, 13, 14, 15, 20, in this order.
 use borrow.Author.Tests.{eq-eqb, ne-eqb, not-true, not-false}
 use Rattle.question.specs.Asked.{restFault}
 use borrow.Author.Needs.{needs}
@@ -41,15 +41,27 @@ returns-5 c =
 returns-6 : tie.Need-returns-6
 unfolding restFault
 returns-6 c =
-    let at-if1 = c .before .before .before .before .before .before .before .before .if1 in
-    let at-within = c .before .before .before .before .before .before .before .within in
-    let at-within2 = c .before .before .before .before .before .within2 in
-    let at-within3 = c .before .before .before .within3 in
-    let at-days-fit = c .before .days-fit in
-    rw (ne-eqb _ _ (at-if1 .left), ← at-within .ensures, not-false (at-within .result) (c .before .before .before .before .before .before .if2 .left), ← at-within2 .ensures, not-false (at-within2 .result) (c .before .before .before .before .if3 .left), ← at-within3 .ensures, not-false (at-within3 .result) (c .before .before .if4 .left), ← at-days-fit .ensures, not-false (at-days-fit .result) (c .if5 .left))
+    let at-if1 = c .before .before .before .before .before .before .before .before .before .before .if1 in
+    let at-within = c .before .before .before .before .before .before .before .before .before .within in
+    let at-within2 = c .before .before .before .before .before .before .before .within2 in
+    let at-within3 = c .before .before .before .before .before .within3 in
+    let at-days-fit = c .before .before .before .days-fit in
+    let at-within4 = c .before .within4 in
+    rw (ne-eqb _ _ (at-if1 .left), ← at-within .ensures, not-false (at-within .result) (c .before .before .before .before .before .before .before .before .if2 .left), ← at-within2 .ensures, not-false (at-within2 .result) (c .before .before .before .before .before .before .if3 .left), ← at-within3 .ensures, not-false (at-within3 .result) (c .before .before .before .before .if4 .left), ← at-days-fit .ensures, not-false (at-days-fit .result) (c .before .before .if5 .left), ← at-within4 .ensures, not-true (at-within4 .result) (c .if6 .taken))
+
+returns-7 : tie.Need-returns-7
+unfolding restFault
+returns-7 c =
+    let at-if1 = c .before .before .before .before .before .before .before .before .before .before .if1 in
+    let at-within = c .before .before .before .before .before .before .before .before .before .within in
+    let at-within2 = c .before .before .before .before .before .before .before .within2 in
+    let at-within3 = c .before .before .before .before .before .within3 in
+    let at-days-fit = c .before .before .before .days-fit in
+    let at-within4 = c .before .within4 in
+    rw (ne-eqb _ _ (at-if1 .left), ← at-within .ensures, not-false (at-within .result) (c .before .before .before .before .before .before .before .before .if2 .left), ← at-within2 .ensures, not-false (at-within2 .result) (c .before .before .before .before .before .before .if3 .left), ← at-within3 .ensures, not-false (at-within3 .result) (c .before .before .before .before .if4 .left), ← at-days-fit .ensures, not-false (at-days-fit .result) (c .before .before .if5 .left), ← at-within4 .ensures, not-false (at-within4 .result) (c .if6 .left))
 
 pub rest-fault-spec : {M : Type 1} → statement M
 rest-fault-spec =
     tie.close
     (tie.spec returns (λ c κs. search needs) returns-2 (λ c κs. search needs) returns-3 (λ c κs. search needs) returns-4 (λ c κs. search needs)
-    returns-5 returns-6)
+    returns-5 (λ c κs. search needs) returns-6 returns-7)
