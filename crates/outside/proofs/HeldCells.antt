@@ -1,7 +1,7 @@
 -- A held listing in cells, of either form: one that did not change leaves its cells as they came, and what was put into cells is read off
 -- them again. One that was stored before is read, and put back, as today's with undated 1.
 use mathlib.Core.Path.{_≡_, refl, sym, ap, subst, _∙_}
-use mathlib.Core.Bool.{Bool, true, false, cond}
+use mathlib.Core.Bool.{Bool, true, false, _||_, cond}
 use mathlib.Core.List.{List, [], _∷_, _++_, append-assoc, append-nil}
 use Prim.Native.Nat.{ℕ, suc, _+_, _≤_, _<_}
 use native.Mathlib.Omega.{arith}
@@ -17,7 +17,7 @@ use Rattle.outside.specs.HeldCells.{questionNumbers, storedNumbers, behi
 pub whole-sizes : (size : ℕ) → heldWhole size ≡ true → (storedSize ≤ size) × (size ≤ heldSize)
 whole-sizes size h = go (eqb size heldSize) refl h
   where
-    go : (today : Bool) → eqb size heldSize ≡ today → cond today true (eqb size storedSize) ≡ true → (storedSize ≤ size) × (size ≤ heldSize)
+    go : (today : Bool) → eqb size heldSize ≡ today → today || eqb size storedSize ≡ true → (storedSize ≤ size) × (size ≤ heldSize)
     go true e h = let same = eqb-true size heldSize e in (omega arith, omega arith)
     go false e h = let same = eqb-true size storedSize h in (omega arith, omega arith)
 
@@ -60,7 +60,7 @@ module _ (cells : List ℕ) (whole : (storedSize ≤ length cells) × (length ce
 
 -- one that was stored before
 module _ (cells : List ℕ) (stored : length cells ≡ storedSize) where
-  front : List ℕ
+  abbrev front : List ℕ
   front = take storedNumbers cells
 
   seven : length front ≡ storedNumbers

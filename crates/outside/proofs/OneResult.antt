@@ -4,6 +4,7 @@ use mathlib.Core.Path.{_≡_, refl, sym, ap, subst, _∙_}
 use mathlib.Core.Bool.{Bool, true, false}
 use mathlib.Core.List.{List}
 use Prim.Native.Nat.{ℕ}
+use native.Mathlib.Omega.{arith}
 use lib.ListN.{length}
 use Rattle.question.specs.declared.Question.{Question}
 use Rattle.listing.specs.Portions.{Start}
@@ -70,7 +71,7 @@ module _ {file cells cells′ out out′ : List ℕ} {number : ℕ} (stored : le
   number-today : HeldNumber file cells cells′ out out′ number → HeldNumber file (asToday cells) (asToday cells′) out out′ number
   number-today h =
       record {
-        wrongSize = λ wrong. let z : true ≡ false = rw (today-long cells stored) at wrong in absurd (not-false-true z);
+        wrongSize = λ wrong. let e = subst (λ (size : ℕ). heldWhole size ≡ false) (today-long cells stored) wrong in let z : _≡_ {A = ℕ} 0 1 = cc in absurd (omega arith);
         moved = λ whole. moved-today (h .moved (rw stored));
       }
 

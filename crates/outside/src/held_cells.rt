@@ -10,6 +10,7 @@ ghost use Rattle.outside.specs.HeldCells.{heldSize, storedSize, heldWhol
 
 // The numbers of a question, and those of one stored before.
 const NUMBERS: usize = 8;
+
 const STORED_NUMBERS: usize = 7;
 
 // The cells of a held listing behind its question.
@@ -17,6 +18,7 @@ const BEHIND: usize = 1 + RECORD;
 
 // The cells of a held listing, and of one stored before.
 const HELD: usize = NUMBERS + BEHIND;
+
 const STORED_HELD: usize = STORED_NUMBERS + BEHIND;
 
 // Whether so many cells are a held listing, of either form.
