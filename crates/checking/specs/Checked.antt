@@ -1,5 +1,5 @@
 -- What is checked of a file, in the order of the refusal numbers. Definitions only.
-use mathlib.Core.List.{List}
+use mathlib.Core.List.{List, [], _∷_}
 use mathlib.Core.Bool.{Bool, true, _&&_, cond}
 use Prim.Native.Nat.{ℕ, _+_, _-_}
 use lib.Dec.{eqb, leb, ltb}
@@ -58,6 +58,10 @@ tablesFault file =
 unfoldable pub fileFault : List ℕ → Fault
 fileFault file =
     unless (marked file) 1 markPlace (unless (countsFit file) 2 (countsPlace file) (unless (laidOut file) 3 (offsetsPlace file) (tablesFault file)))
+
+-- the numbers that a file is refused with
+abbrev pub fileNumbers : List ℕ
+fileNumbers = 1 ∷ 2 ∷ 3 ∷ 4 ∷ 5 ∷ 6 ∷ 7 ∷ 8 ∷ 9 ∷ []
 
 -- the verdict on a file
 unfoldable pub checked : List ℕ → Verdict

@@ -1,18 +1,17 @@
 -- The demands at the C door: a refusal is told by 2^63, and what was put into the number is read off it again.
 use mathlib.Core.Path.{_≡_, refl, sym, ap, subst, _∙_}
 use mathlib.Core.Bool.{Bool, true, false}
-use mathlib.Core.List.{List, [], _∷_}
+use mathlib.Core.List.{List, [], _∷_, List·Memᴰ·head, List·Memᴰ·tail, Memᴰ·cast}
 use Prim.Native.Nat.{ℕ, _+_, _*_, _-_, _^_, _≤_, _<_}
 use native.Mathlib.Omega.{arith}
 use lib.ListN.{length, drop, length-take, length-drop}
-use lib.Dec.{eqb}
-use borrow.Author.Tests.{eqb-true, eqb-false}
 use Rattle.format.specs.Format.{personCount, linkCount, feedCount}
 use Rattle.checking.specs.Verdict as verdict
-use Rattle.refusals.specs.Faults.{Fault, sound, fault, firstOf, NumberedFrom, Numbered}
-use Rattle.checking.specs.Checked.{fileFault, checked}
+use Rattle.refusals.specs.Faults.{Fault, sound, fault, firstOf, Numbered}
+use Rattle.checking.specs.Checked.{fileFault, fileNumbers, checked}
 use Rattle.checking.specs.Rows.{viewStart, viewEnd}
 use Rattle.refusals.proofs.Faults.{first-both}
+use Rattle.refusals.proofs.Numbered.{upTo, up-to}
 use Rattle.format.proofs.Counted.{laid-out-long}
 use Rattle.checking.proofs.Passed.{sound-rules, passed-fits}
 use Rattle.checking.proofs.Numbered.{file-numbered}
@@ -25,11 +24,11 @@ use Rattle.ways.proofs.Portions.{lastOr-in}
 use Rattle.ways.proofs.Fewest.{fewest-cap}
 use Rattle.question.specs.declared.Question.{Question}
 use Rattle.question.specs.Admission.{next}
-use Rattle.question.specs.Asked.{personFault, askedFault}
+use Rattle.question.specs.Asked.{personFault, askedFault, askedNumbers}
 use Rattle.question.proofs.Numbered.{person-numbered}
 use Rattle.question.proofs.Refused.{person-proper}
 use Rattle.distance.specs.Answers as distance
-use Rattle.portion.specs.Listing.{listingFor, portionFault, portionFor, endedFor, Portioned}
+use Rattle.portion.specs.Listing.{listingFor, portionFault, portionNumbers, portionFor, endedFor, Portioned}
 use Rattle.listing.specs.Portions.{Start}
 use Rattle.refusals.specs.Answers.{Answer, listed, refused, answerSaid, answerFor}
 use Rattle.refusals.specs.declared.Answer as code
@@ -38,13 +37,14 @@ use Rattle.listing.proofs.Known.{portion-in, kept}
 use Rattle.listing.proofs.Telling.{sound-first}
 use Rattle.held.specs.declared.Held.{Held}
 use Rattle.held.specs.Holding.{startOf, MovedOn}
-use Rattle.join.specs.Lists.{chainsFor, joinFault, firstOnes, allFit}
+use Rattle.join.specs.Lists.{chainsFor, joinFault, joinNumbers, firstOnes, allFit}
 use Rattle.join.proofs.Numbered.{join-numbered}
 use Rattle.outside.specs.Encoded.{refusalNumber, endedNumber, listedNumber, Small, CheckNumber, RowNumber, FewestNumber, PortionNumber, JoinNumber}
-use Rattle.outside.specs.HeldCells.{heldSize, heldOf, heldCells, MovedCells, HeldNumber}
+use Rattle.outside.specs.HeldCells.{heldWhole, heldOf, heldCells, MovedCells, HeldNumber}
 use Rattle.outside.specs.TakenApart.{countIn, personsIn, linksIn, feedsIn}
 use Rattle.outside.proofs.Numbered.{ended-few}
-use Rattle.outside.proofs.HeldCells.{held-kept, movedTo, held-back}
+use Rattle.outside.proofs.HeldCells.{whole-sizes, held-kept, movedTo, held-back}
+use Rattle.outside.proofs.OneResult.{stored-as-today}
 use Rattle.outside.proofs.TakenApart.{refusal-apart, listed-apart, counts-apart}
 use Rattle.demands.specs.Paths.{FewestFrom}
 use Rattle.demands.specs.Door.{Tells, NothingLent, Listed, sizeFault, heldFault, AtTheDoor}
@@ -52,30 +52,30 @@ use Rattle.demands.proofs.Ending.{viewBy}
 use Rattle.demands.proofs.Fewest.{fewest-from}
 
 -- what a number tells by the first fault
-tells : (first : Fault) (lowest last : ℕ) {answer : ℕ} {Unchanged Answers : Type 0} → last ≤ 18 → NumberedFrom lowest last first → (first ≡ sound → (answer < 2 ^ 63) × Answers)
-    → ((number place : ℕ) → first ≡ fault number place → (answer ≡ refusalNumber number place) × Unchanged) → Tells first lowest last answer Unchanged Answers
-tells sound lowest last few numbered passes fails =
+tells : (first : Fault) (numbers : List ℕ) {answer : ℕ} {Unchanged Answers : Type 0} → upTo 20 numbers ≡ true → Numbered numbers first → (first ≡ sound → (answer < 2 ^ 63) × Answers)
+    → ((number place : ℕ) → first ≡ fault number place → (answer ≡ refusalNumber number place) × Unchanged) → Tells first numbers answer Unchanged Answers
+tells sound numbers few numbered passes fails =
     record {
       refused = (λ h. absurd (let b = passes refl .0 in omega arith), λ n. absurd (n refl));
       apart = λ number place e. let z : _≡_ {A = ℕ} 0 1 = cc in absurd (omega arith);
       unchanged = λ h. absurd (let b = passes refl .0 in omega arith);
       answers = λ e. passes refl .1;
     }
-tells (fault r p) lowest last few numbered passes fails =
+tells (fault r p) numbers few numbered passes fails =
     let told = fails r p refl in
-    let parts = refusal-apart r p (omega (arith, numbered .1)) (numbered .2) in
+    let parts = refusal-apart r p (omega (arith, up-to 20 numbers few (numbered .0))) (numbered .1) in
     record {
       refused = (λ h e. let z : _≡_ {A = ℕ} 0 1 = cc in omega arith, λ n. omega (arith, told .0));
-      apart = λ number place e. let same : r ≡ number = cc in let there : p ≡ place = cc in (rw (told .0) (parts .0) ∙ same, rw (told .0) (parts .1) ∙ there, omega (arith, numbered .0), omega (arith, numbered .1));
+      apart = λ number place e. let same : r ≡ number = cc in let there : p ≡ place = cc in (rw (told .0) (parts .0) ∙ same, rw (told .0) (parts .1) ∙ there, Memᴰ·cast (sym same) (numbered .0));
       unchanged = λ h. told .1;
       answers = λ e. let z : _≡_ {A = ℕ} 0 1 = cc in absurd (omega arith);
     }
 
 kin-check : (file : List ℕ) {answer : ℕ} → CheckNumber file answer
-    → Tells (fileFault file) 1 9 answer NothingLent ((personsIn answer ≡ personCount file) × (linksIn answer ≡ linkCount file) × (feedsIn answer ≡ feedCount file))
+    → Tells (fileFault file) fileNumbers answer NothingLent ((personsIn answer ≡ personCount file) × (linksIn answer ≡ linkCount file) × (feedsIn answer ≡ feedCount file))
 unfolding checked
 kin-check file {answer} is =
-    tells (fileFault file) 1 9 (omega arith) (file-numbered file)
+    tells (fileFault file) fileNumbers refl (file-numbered file)
     (λ e.
     let fit = passed-fits (sound-rules file e) in
     let told : answer ≡ personCount file + linkCount file * 2 ^ 16 + feedCount file * 2 ^ 32 = is ∙ rw e in
@@ -97,11 +97,11 @@ kin-row file person is = omega (arith, is, go (fileFault file) refl)
         omega (arith, length-take (viewEnd said file person - start) (drop start file), length-drop start file, laid-out-long file (rules .lays), fit)
 
 kin-fewest : (file : List ℕ) (q : Question) (person : ℕ) {answer : ℕ} → FewestNumber file q person answer
-    → Tells (firstOf (fileFault file) (personFault (personCount file) q person)) 1 15 answer NothingLent (FewestFrom file q person answer)
+    → Tells (firstOf (fileFault file) (personFault (personCount file) q person)) askedNumbers answer NothingLent (FewestFrom file q person answer)
 unfolding distance.answered
 kin-fewest file q person {answer} is =
     let first = firstOf (fileFault file) (personFault (personCount file) q person) in
-    tells first 1 15 (omega arith) (person-numbered file q person)
+    tells first askedNumbers refl (person-numbered file q person)
     (λ e.
     let proper = person-proper (personCount file) q person (first-both (fileFault file) (personFault (personCount file) q person) e .1) .0 in
     let told : answer ≡ fewest (next file q) (q .to) (q .hops) person = is ∙ rw e in
@@ -109,10 +109,10 @@ kin-fewest file q person {answer} is =
     (λ number place e. (is ∙ rw e, tt))
 
 -- portion, held listing and join are told alike
-listing-tells : (first : Fault) (last count : ℕ) (ended : Bool) {said : Answer} {answer : ℕ} {Unchanged : Type 0} → last ≤ 18 → Numbered last first → said ≡ answerFor first count ended → Small said → answer ≡ listedNumber said
-    → ((number place : ℕ) → first ≡ fault number place → Unchanged) → Tells first 1 last answer Unchanged (Listed answer count ended)
-listing-tells first last count ended {said} {answer} few numbered is small told unchanged =
-    tells first 1 last few numbered
+listing-tells : (first : Fault) (numbers : List ℕ) (count : ℕ) (ended : Bool) {said : Answer} {answer : ℕ} {Unchanged : Type 0} → upTo 20 numbers ≡ true → Numbered numbers first → said ≡ answerFor first count ended → Small said → answer ≡ listedNumber said
+    → ((number place : ℕ) → first ≡ fault number place → Unchanged) → Tells first numbers answer Unchanged (Listed answer count ended)
+listing-tells first numbers count ended {said} {answer} few numbered is small told unchanged =
+    tells first numbers few numbered
     (λ e.
     let listing : said ≡ listed count ended = is ∙ rw e in
     let number : answer ≡ count + endedNumber ended * 2 ^ 62 = told ∙ rw listing in
@@ -122,30 +122,30 @@ listing-tells first last count ended {said} {answer} few numbered is small told 
 
 portion-tells : (file : List ℕ) (q : Question) {start : Start} {out out′ : List ℕ} {answer : code.Answer} {number : ℕ} {Unchanged : Type 0} → Portioned file q start out out′ answer → Small (answerSaid answer) → number ≡ listedNumber (answerSaid answer)
     → ((r place : ℕ) → portionFault file q start out ≡ fault r place → Unchanged)
-    → Tells (portionFault file q start out) 1 17 number Unchanged (Listed number (length (portionFor file q start out)) (endedFor file q start out))
+    → Tells (portionFault file q start out) portionNumbers number Unchanged (Listed number (length (portionFor file q start out)) (endedFor file q start out))
 portion-tells file q {start} {out} p small told unchanged =
-    listing-tells (portionFault file q start out) 17 (length (portionFor file q start out)) (endedFor file q start out) (omega arith) (portion-numbered file q start out) (p .answers) small told unchanged
+    listing-tells (portionFault file q start out) portionNumbers (length (portionFor file q start out)) (endedFor file q start out) refl (portion-numbered file q start out) (p .answers) small told unchanged
 
 kin-portion : {file : List ℕ} {q : Question} {start : Start} {out out′ : List ℕ} {answer : ℕ} → PortionNumber file q start out out′ answer
-    → Tells (portionFault file q start out) 1 17 answer (out′ ≡ out) (Listed answer (length (portionFor file q start out)) (endedFor file q start out))
+    → Tells (portionFault file q start out) portionNumbers answer (out′ ≡ out) (Listed answer (length (portionFor file q start out)) (endedFor file q start out))
 kin-portion {file} {q} p = portion-tells file q (p .portioned) (p .small) (p .answers) (λ number place e. p .portioned .cells ∙ rw e)
 
 kin-join : {file : List ℕ} {q : Question} {working working′ out out′ : List ℕ} {answer : ℕ} → JoinNumber file q working working′ out out′ answer
-    → Tells (joinFault file q working out) 1 18 answer ((working′ ≡ working) × (out′ ≡ out)) (Listed answer (length (firstOnes (chainsFor file q) out)) (allFit (chainsFor file q) out))
+    → Tells (joinFault file q working out) joinNumbers answer ((working′ ≡ working) × (out′ ≡ out)) (Listed answer (length (firstOnes (chainsFor file q) out)) (allFit (chainsFor file q) out))
 kin-join {file} {q} {working} {out = out} j =
-    listing-tells (joinFault file q working out) 18 (length (firstOnes (chainsFor file q) out)) (allFit (chainsFor file q) out) (omega arith) (join-numbered file q working out) (j .joins .answers) (j .small) (j .answers)
+    listing-tells (joinFault file q working out) joinNumbers (length (firstOnes (chainsFor file q) out)) (allFit (chainsFor file q) out) refl (join-numbered file q working out) (j .joins .answers) (j .small) (j .answers)
     (λ number place e. (j .joins .shelf ∙ rw e, j .joins .cells ∙ rw e))
 
--- a call on 18 cells
-module _ {file cells cells′ out out′ : List ℕ} {answer : ℕ} (whole : length cells ≡ heldSize) (m : MovedCells file cells cells′ out out′ answer) where
+-- a call on the cells of a held listing
+module _ {file cells cells′ out out′ : List ℕ} {answer : ℕ} (whole : heldWhole (length cells) ≡ true) (m : MovedCells file cells cells′ out out′ answer) where
   unmoved : m .held ≡ heldOf cells → cells′ ≡ cells
-  unmoved same = m .keeps ∙ ap (heldCells cells) same ∙ held-kept cells whole
+  unmoved same = m .keeps ∙ ap (heldCells cells) same ∙ held-kept cells (whole-sizes (length cells) whole)
 
   -- a refusal leaves the held listing as it was, and so its cells
   refused-stays : (number place : ℕ) → portionFault file (heldOf cells .question) (startOf (heldOf cells)) out ≡ fault number place → (cells′ ≡ cells) × (out′ ≡ out)
   refused-stays number place e = (unmoved (m .moves .keeps ∙ rw e), m .moves .portioned .cells ∙ rw e)
 
-  moved-tells : Tells (portionFault file (heldOf cells .question) (startOf (heldOf cells)) out) 1 17 answer ((cells′ ≡ cells) × (out′ ≡ out))
+  moved-tells : Tells (portionFault file (heldOf cells .question) (startOf (heldOf cells)) out) portionNumbers answer ((cells′ ≡ cells) × (out′ ≡ out))
       (Listed answer (length (portionFor file (heldOf cells .question) (startOf (heldOf cells)) out)) (endedFor file (heldOf cells .question) (startOf (heldOf cells)) out))
   moved-tells = portion-tells file (heldOf cells .question) (m .moves .portioned) (m .small) (m .answers) refused-stays
 
@@ -169,47 +169,47 @@ module _ {file cells cells′ out out′ : List ℕ} {answer : ℕ} (whole : len
       let last = recordOf recordSize (lastOr c P) in
       let inside = portion-in (listingFor file q) start out (subst (λ (l : List (List ℕ)). lastOr c P ∈ l) (sym i) (lastOr-in c P)) in
       let ten = kept (chains-listing file q (sound-first (askedFault file q) (listingFor file q) start out e .0)) (lastOr c P) inside .whole in
-      let moved : m .held ≡ movedTo cells last = m .moves .keeps ∙ rw (e, i) in
-      ap heldOf (m .keeps ∙ ap (heldCells cells) moved) ∙ held-back cells last whole ten ∙ sym moved
+      let moved : m .held ≡ movedTo cells (whole-sizes (length cells) whole) last = m .moves .keeps ∙ rw (e, i) in
+      ap heldOf (m .keeps ∙ ap (heldCells cells) moved) ∙ held-back cells (whole-sizes (length cells) whole) last ten ∙ sym moved
 
   moves-on : MovedOn file (heldOf cells) (heldOf cells′) out out′ (m .answer)
   moves-on =
       let same = stays-or-moves (portionFault file (heldOf cells .question) (startOf (heldOf cells)) out) refl (portionFor file (heldOf cells .question) (startOf (heldOf cells)) out) refl in
       subst (λ (h : Held). MovedOn file (heldOf cells) h out out′ (m .answer)) (sym same) (m .moves)
 
--- the lowest number is 0 where a wrong size counts too
-tells-lower : {first : Fault} {last answer : ℕ} {Unchanged Answers : Type 0} → Tells first 1 last answer Unchanged Answers → Tells first 0 last answer Unchanged Answers
-tells-lower t =
+-- one number more, where a wrong size counts too
+tells-more : {first : Fault} {numbers : List ℕ} {answer : ℕ} {Unchanged Answers : Type 0} (number : ℕ) → Tells first numbers answer Unchanged Answers → Tells first (number ∷ numbers) answer Unchanged Answers
+tells-more number t =
     record {
       refused = t .refused;
-      apart = λ number place e. let a = t .apart number place e in (a .0, a .1, omega arith, a .3);
+      apart = λ r place e. let a = t .apart r place e in (a .0, a .1, List·Memᴰ·tail (a .2));
       unchanged = t .unchanged;
       answers = t .answers;
     }
 
 module _ {file cells cells′ out out′ : List ℕ} {answer : ℕ} (h : HeldNumber file cells cells′ out out′ answer) where
-  kin-held : Tells (heldFault file cells out) 0 17 answer ((cells′ ≡ cells) × (out′ ≡ out))
+  kin-held : Tells (heldFault file cells out) (0 ∷ portionNumbers) answer ((cells′ ≡ cells) × (out′ ≡ out))
       (Listed answer (length (portionFor file (heldOf cells .question) (startOf (heldOf cells)) out)) (endedFor file (heldOf cells .question) (startOf (heldOf cells)) out))
-  kin-held = go (eqb (length cells) heldSize) refl
+  kin-held = go (heldWhole (length cells)) refl
     where
-      go : (whole : Bool) → eqb (length cells) heldSize ≡ whole
-          → Tells (sizeFault whole (portionFault file (heldOf cells .question) (startOf (heldOf cells)) out)) 0 17 answer ((cells′ ≡ cells) × (out′ ≡ out))
+      go : (whole : Bool) → heldWhole (length cells) ≡ whole
+          → Tells (sizeFault whole (portionFault file (heldOf cells .question) (startOf (heldOf cells)) out)) (0 ∷ portionNumbers) answer ((cells′ ≡ cells) × (out′ ≡ out))
           (Listed answer (length (portionFor file (heldOf cells .question) (startOf (heldOf cells)) out)) (endedFor file (heldOf cells .question) (startOf (heldOf cells)) out))
-      go true e = let whole = eqb-true (length cells) heldSize e in tells-lower (moved-tells whole (h .moved whole))
+      go true e = tells-more 0 (moved-tells e (h .moved e))
       go false e =
-          let w = h .wrongSize (eqb-false (length cells) heldSize e) in
-          tells (sizeFault false (portionFault file (heldOf cells .question) (startOf (heldOf cells)) out)) 0 17 (omega arith) (omega arith, omega arith, omega arith) (λ i. let z : _≡_ {A = ℕ} 0 1 = cc in absurd (omega arith))
+          let w = h .wrongSize e in
+          tells (sizeFault false (portionFault file (heldOf cells .question) (startOf (heldOf cells)) out)) (0 ∷ portionNumbers) refl (List·Memᴰ·head refl, omega arith) (λ i. let z : _≡_ {A = ℕ} 0 1 = cc in absurd (omega arith))
           (λ number place i. let zero : 0 ≡ number = cc in let none : 0 ≡ place = cc in (omega (arith, w .0), (w .1, w .2)))
 
   kin-held-stays : countIn answer ≡ 0 → (cells′ ≡ cells) × (out′ ≡ out)
-  kin-held-stays zero = go (eqb (length cells) heldSize) refl
+  kin-held-stays zero = go (heldWhole (length cells)) refl
     where
-      go : (whole : Bool) → eqb (length cells) heldSize ≡ whole → (cells′ ≡ cells) × (out′ ≡ out)
-      go true e = let whole = eqb-true (length cells) heldSize e in none-stays whole (h .moved whole) zero
-      go false e = let w = h .wrongSize (eqb-false (length cells) heldSize e) in (w .1, w .2)
+      go : (whole : Bool) → heldWhole (length cells) ≡ whole → (cells′ ≡ cells) × (out′ ≡ out)
+      go true e = none-stays e (h .moved e) zero
+      go false e = let w = h .wrongSize e in (w .1, w .2)
 
-  kin-held-moves : length cells ≡ heldSize → (said : code.Answer) × MovedOn file (heldOf cells) (heldOf cells′) out out′ said × (answer ≡ listedNumber (answerSaid said))
+  kin-held-moves : heldWhole (length cells) ≡ true → (said : code.Answer) × MovedOn file (heldOf cells) (heldOf cells′) out out′ said × (answer ≡ listedNumber (answerSaid said))
   kin-held-moves whole = let m = h .moved whole in (m .answer, moves-on whole m, m .answers)
 
 pub at-the-door : AtTheDoor
-at-the-door = record { kinCheck = kin-check; kinRow = kin-row; kinFewest = kin-fewest; kinPortion = kin-portion; kinHeld = kin-held; kinHeldMoves = kin-held-moves; kinHeldStays = kin-held-stays; kinJoin = kin-join }
+at-the-door = record { kinCheck = kin-check; kinRow = kin-row; kinFewest = kin-fewest; kinPortion = kin-portion; kinHeld = kin-held; kinHeldMoves = kin-held-moves; kinHeldStored = stored-as-today; kinHeldStays = kin-held-stays; kinJoin = kin-join }

@@ -11,7 +11,7 @@ use borrow.Author.Tests.{le-ltb}
 use Rattle.format.specs.Format.{personCount, linkCount, feedCount}
 use Rattle.checking.specs.Verdict as verdict
 use Rattle.refusals.specs.Faults.{Fault, sound, fault, firstOf, Numbered}
-use Rattle.checking.specs.Checked.{fileFault, checked}
+use Rattle.checking.specs.Checked.{fileFault, fileNumbers, checked}
 use Rattle.checking.specs.Rows.{viewStart, viewEnd}
 use Rattle.checking.specs.Answers.{verdictSaid, Checks, Views}
 use Rattle.checking.specs.declared.Verdict.{Verdict}
@@ -19,17 +19,17 @@ use Rattle.checking.proofs.Numbered.{file-numbered}
 use Rattle.ways.specs.Fewest.{fewest}
 use Rattle.question.specs.declared.Question.{Question}
 use Rattle.question.specs.Admission.{next}
-use Rattle.question.specs.Asked.{personFault}
+use Rattle.question.specs.Asked.{personFault, askedNumbers}
 use Rattle.question.proofs.Numbered.{person-numbered}
 use Rattle.distance.specs.Answers as distance
 use Rattle.distance.specs.declared.HopsAnswer as hops
-use Rattle.portion.specs.Listing.{portionFault, portionFor, endedFor, Portioned}
+use Rattle.portion.specs.Listing.{portionFault, portionNumbers, portionFor, endedFor, Portioned}
 use Rattle.listing.specs.Portions.{Start}
 use Rattle.refusals.specs.Answers.{refused, answerSaid, answerFor}
 use Rattle.refusals.specs.declared.Answer.{Answer}
 use Rattle.portion.proofs.Instance.{portion-numbered}
 use Rattle.held.specs.Holding.{startOf}
-use Rattle.join.specs.Lists.{chainsFor, joinFault, firstOnes, allFit}
+use Rattle.join.specs.Lists.{chainsFor, joinFault, joinNumbers, firstOnes, allFit}
 use Rattle.join.specs.Answers.{Joins}
 use Rattle.join.proofs.Numbered.{join-numbered}
 use Rattle.demands.specs.Demands.{Ends, EveryEnds, RefusalLeaves}
@@ -37,18 +37,18 @@ use Rattle.demands.specs.Demands.{Ends, EveryEnds, RefusalLeaves}
 -- what an operation answers by its first fault
 module _ {A : Type 0} (refused : ℕ → ℕ → A) (answerBy : Fault → A) (says : (number place : ℕ) → answerBy (fault number place) ≡ refused number place)
     (differs : (number place : ℕ) → answerBy sound ≢ refused number place) where
-  ends-by : (first : Fault) (last : ℕ) → Numbered last first → {answer : A} → answer ≡ answerBy first → Ends refused first last answer
-  ends-by first last numbered is =
+  ends-by : (first : Fault) (numbers : List ℕ) → Numbered numbers first → {answer : A} → answer ≡ answerBy first → Ends refused first numbers answer
+  ends-by first numbers numbered is =
       record {
         answers = λ e number place f. differs number place (sym (is ∙ ap answerBy e) ∙ f);
-        refuses = λ number place e. let n = subst (Numbered last) e numbered in (is ∙ ap answerBy e ∙ says number place, n .0, n .1);
+        refuses = λ number place e. (is ∙ ap answerBy e ∙ says number place, subst (Numbered numbers) e numbered .0);
       }
 
-check-ends : (file : List ℕ) (answer : Verdict) → Checks file answer → Ends verdict.refused (fileFault file) 9 (verdictSaid answer)
+check-ends : (file : List ℕ) (answer : Verdict) → Checks file answer → Ends verdict.refused (fileFault file) fileNumbers (verdictSaid answer)
 unfolding checked
 check-ends file answer is =
     ends-by verdict.refused (λ f. verdict.verdict f (personCount file) (linkCount file) (feedCount file)) (λ number place. refl)
-    (λ number place e. let z : _≡_ {A = ℕ} 0 1 = cc in omega arith) (fileFault file) 9 (file-numbered file) is
+    (λ number place e. let z : _≡_ {A = ℕ} 0 1 = cc in omega arith) (fileFault file) fileNumbers (file-numbered file) is
 
 -- the row view by the first fault of the file
 abbrev pub viewBy : List ℕ → ℕ → Fault → List ℕ
@@ -67,32 +67,32 @@ row-ends file view person v why = v .bytes ∙ go (fileFault (now file)) why
     go sound (inr h) = rw (le-ltb person (personCount (now file)) h)
 
 fewest-ends : (file : List ℕ) (q : Question) (person : ℕ) (answer : hops.HopsAnswer) → distance.FewestHops file q person answer
-    → Ends distance.refused (firstOf (fileFault file) (personFault (personCount file) q person)) 15 (distance.hopsSaid answer)
+    → Ends distance.refused (firstOf (fileFault file) (personFault (personCount file) q person)) askedNumbers (distance.hopsSaid answer)
 unfolding distance.answered
 fewest-ends file q person answer is =
     ends-by distance.refused (λ f. distance.unlessRefused f (fewest (next file q) (q .to) (q .hops) person)) (λ number place. refl)
-    (λ number place e. let z : _≡_ {A = ℕ} 0 1 = cc in omega arith) (firstOf (fileFault file) (personFault (personCount file) q person)) 15 (person-numbered file q person) is
+    (λ number place e. let z : _≡_ {A = ℕ} 0 1 = cc in omega arith) (firstOf (fileFault file) (personFault (personCount file) q person)) askedNumbers (person-numbered file q person) is
 
 -- portion, held listing and join answer alike
-listing-ends : (first : Fault) (last count : ℕ) (ended : Bool) (answer : Answer) → Numbered last first → answerSaid answer ≡ answerFor first count ended → Ends refused first last (answerSaid answer)
-listing-ends first last count ended answer numbered is =
-    ends-by refused (λ f. answerFor f count ended) (λ number place. refl) (λ number place e. let z : _≡_ {A = ℕ} 0 1 = cc in omega arith) first last numbered is
+listing-ends : (first : Fault) (numbers : List ℕ) (count : ℕ) (ended : Bool) (answer : Answer) → Numbered numbers first → answerSaid answer ≡ answerFor first count ended → Ends refused first numbers (answerSaid answer)
+listing-ends first numbers count ended answer numbered is =
+    ends-by refused (λ f. answerFor f count ended) (λ number place. refl) (λ number place e. let z : _≡_ {A = ℕ} 0 1 = cc in omega arith) first numbers numbered is
 
 portion-ends : (file : List ℕ) (q : Question) {start : Start} {out out′ : List ℕ} {answer : Answer} → Portioned file q start out out′ answer
-    → Ends refused (portionFault file q start out) 17 (answerSaid answer)
+    → Ends refused (portionFault file q start out) portionNumbers (answerSaid answer)
 portion-ends file q {start} {out} {answer = answer} p =
-    listing-ends (portionFault file q start out) 17 (length (portionFor file q start out)) (endedFor file q start out) answer (portion-numbered file q start out) (p .answers)
+    listing-ends (portionFault file q start out) portionNumbers (length (portionFor file q start out)) (endedFor file q start out) answer (portion-numbered file q start out) (p .answers)
 
 join-ends : {file : List ℕ} {q : Question} {working working′ out out′ : List ℕ} {answer : Answer} → Joins file q working working′ out out′ answer
-    → Ends refused (joinFault file q working out) 18 (answerSaid answer)
+    → Ends refused (joinFault file q working out) joinNumbers (answerSaid answer)
 join-ends {file} {q} {working} {out = out} {answer = answer} j =
-    listing-ends (joinFault file q working out) 18 (length (firstOnes (chainsFor file q) out)) (allFit (chainsFor file q) out) answer (join-numbered file q working out) (j .answers)
+    listing-ends (joinFault file q working out) joinNumbers (length (firstOnes (chainsFor file q) out)) (allFit (chainsFor file q) out) answer (join-numbered file q working out) (j .answers)
 
 pub every-ends : EveryEnds
 every-ends = record { check = check-ends; row = row-ends; fewest = fewest-ends; portion = portion-ends; held = λ {file} {held} m. portion-ends file (held .question) (m .portioned); join = join-ends }
 
 -- where an operation answered a refusal, there was a fault
-first-fault : {A : Type 0} {refused : ℕ → ℕ → A} (first : Fault) {last number place : ℕ} {answer : A} → Ends refused first last answer → answer ≡ refused number place → (n : ℕ) × (p : ℕ) × (first ≡ fault n p)
+first-fault : {A : Type 0} {refused : ℕ → ℕ → A} (first : Fault) {numbers : List ℕ} {number place : ℕ} {answer : A} → Ends refused first numbers answer → answer ≡ refused number place → (n : ℕ) × (p : ℕ) × (first ≡ fault n p)
 first-fault sound {number = number} {place} ends said = absurd (ends .answers refl number place said)
 first-fault (fault n p) ends said = (n, p, refl)
 

@@ -11,7 +11,7 @@ use denote.Ref.{RefT, now}
 use Rattle.format.specs.Format.{personCount}
 use Rattle.checking.specs.Verdict as verdict
 use Rattle.refusals.specs.Faults.{Fault, sound, fault, firstOf}
-use Rattle.checking.specs.Checked.{fileFault}
+use Rattle.checking.specs.Checked.{fileFault, fileNumbers}
 use Rattle.checking.specs.Answers.{verdictSaid, Checks, Views}
 use Rattle.checking.specs.declared.Verdict.{Verdict}
 use Rattle.ways.specs.Graph.{_∈_}
@@ -21,10 +21,10 @@ use Rattle.ways.specs.ByHops.{Sooner}
 use Rattle.ways.specs.Records.{cellsOf, written}
 use Rattle.ways.specs.Sizes.{recordSize}
 use Rattle.question.specs.declared.Question.{Question}
-use Rattle.question.specs.Asked.{personFault}
+use Rattle.question.specs.Asked.{personFault, askedNumbers}
 use Rattle.distance.specs.Answers as distance
 use Rattle.distance.specs.declared.HopsAnswer as hops
-use Rattle.portion.specs.Listing.{listingFor, portionFault, Portioned, Run, LaidEndToEnd, Resumed}
+use Rattle.portion.specs.Listing.{listingFor, portionFault, portionNumbers, Portioned, Run, LaidEndToEnd, Resumed}
 use Rattle.listing.specs.Portions.{Start, fresh, bookmarked, startFault}
 use Rattle.refusals.specs.Answers.{listed, refused, answerSaid}
 use Rattle.listing.specs.EndToEnd.{Call, saysEnded, allWrote, allRoom, Brings, EndsRight, Laid}
@@ -33,30 +33,30 @@ use Rattle.held.specs.declared.Held.{Held}
 use Rattle.held.specs.Holding.{startOf, MovedOn}
 use Rattle.listing.specs.Onward.{Quiet}
 use Rattle.held.specs.Calls.{Run as HeldRun}
-use Rattle.join.specs.Lists.{halvesFor, chainsFor, halvesFault, joinFault, firstOnes, allFit}
+use Rattle.join.specs.Lists.{halvesFor, chainsFor, halvesFault, joinFault, joinNumbers, firstOnes, allFit}
 use Rattle.join.specs.Answers.{Joins}
 use Rattle.demands.specs.OneResult.{OneResult}
 use Rattle.demands.specs.Paths.{SimplePath, HalfPath, FewestFrom}
 
 -- How an operation ends of which this is the first fault, in the order of the customer's table: with its answer; or with the number of
--- that fault, 1 to the last that the operation gives, and its place
-pub record Ends {A : Type 0} (refused : ℕ → ℕ → A) (first : Fault) (last : ℕ) (answer : A) : Type 0 where
+-- that fault, one of those that the operation gives, and its place
+pub record Ends {A : Type 0} (refused : ℕ → ℕ → A) (first : Fault) (numbers : List ℕ) (answer : A) : Type 0 where
   pub answers : first ≡ sound → (number place : ℕ) → answer ≢ refused number place
-  pub refuses : (number place : ℕ) → first ≡ fault number place → (answer ≡ refused number place) × (1 ≤ number) × (number ≤ last)
+  pub refuses : (number place : ℕ) → first ≡ fault number place → (answer ≡ refused number place) × (number ∈ numbers)
 
 -- every public operation ends so. That it ends at all is part of each function's own proof
 pub record EveryEnds : Type 0 where
-  pub check : (file : List ℕ) (answer : Verdict) → Checks file answer → Ends verdict.refused (fileFault file) 9 (verdictSaid answer)
+  pub check : (file : List ℕ) (answer : Verdict) → Checks file answer → Ends verdict.refused (fileFault file) fileNumbers (verdictSaid answer)
   -- "For a refused file, or a person out of range, the part is empty and no number comes with it"
   pub row : (file view : RefT (List ℕ)) (person : ℕ) → Views file person view → (fileFault (now file) ≢ sound) ⊎ (personCount (now file) ≤ person) → now view ≡ []
   pub fewest : (file : List ℕ) (q : Question) (person : ℕ) (answer : hops.HopsAnswer) → distance.FewestHops file q person answer
-      → Ends distance.refused (firstOf (fileFault file) (personFault (personCount file) q person)) 15 (distance.hopsSaid answer)
+      → Ends distance.refused (firstOf (fileFault file) (personFault (personCount file) q person)) askedNumbers (distance.hopsSaid answer)
   pub portion : (file : List ℕ) (q : Question) {start : Start} {out out′ : List ℕ} {answer : Answer} → Portioned file q start out out′ answer
-      → Ends refused (portionFault file q start out) 17 (answerSaid answer)
+      → Ends refused (portionFault file q start out) portionNumbers (answerSaid answer)
   pub held : {file : List ℕ} {held held′ : Held} {out out′ : List ℕ} {answer : Answer} → MovedOn file held held′ out out′ answer
-      → Ends refused (portionFault file (held .question) (startOf held) out) 17 (answerSaid answer)
+      → Ends refused (portionFault file (held .question) (startOf held) out) portionNumbers (answerSaid answer)
   pub join : {file : List ℕ} {q : Question} {working working′ out out′ : List ℕ} {answer : Answer} → Joins file q working working′ out out′ answer
-      → Ends refused (joinFault file q working out) 18 (answerSaid answer)
+      → Ends refused (joinFault file q working out) joinNumbers (answerSaid answer)
 
 -- the operations that are lent cells for writing. The file and a bookmark are lent for reading only (`&`): the language lets nobody
 -- write through such a loan, so no promise has to say that they stay

@@ -1,5 +1,5 @@
 -- Where a portion of a listing starts, when it is refused, and which chains it has. Definitions only.
-use mathlib.Core.List.{List, []}
+use mathlib.Core.List.{List, [], _∷_, _++_}
 use mathlib.Core.Bool.{Bool, cond}
 use Prim.Native.Nat.{ℕ}
 use lib.ListN.{length}
@@ -39,6 +39,10 @@ startFault chains (bookmarked bookmark) = unless (isRecordIn recordSize chains b
 -- the first refusal of a portion: what is found before the listing is looked at, then 16 (output under ten cells), 17
 unfoldable pub refusalOf : Fault → List (List ℕ) → Start → List ℕ → Fault
 refusalOf first chains start out = firstOf first (roomFault (length out) (startFault chains start))
+
+-- its numbers, where these are the ones that are found before the listing is looked at
+abbrev pub portionNumbersAfter : List ℕ → List ℕ
+portionNumbersAfter first = first ++ (16 ∷ 17 ∷ [])
 
 -- "the first r chains after the bookmark, or all if fewer"
 abbrev pub portionOf : List (List ℕ) → Start → List ℕ → List (List ℕ)

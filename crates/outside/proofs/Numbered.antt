@@ -15,14 +15,15 @@ use Rattle.ways.specs.Records.{roomOf}
 use Rattle.question.specs.declared.Question.{Question}
 use Rattle.question.specs.Admission.{next}
 use Rattle.ways.specs.Sizes.{recordSize}
-use Rattle.question.specs.Asked.{personFault}
+use Rattle.question.specs.Asked.{personFault, askedNumbers}
 use Rattle.question.proofs.Numbered.{person-numbered}
 use Rattle.distance.specs.Answers as distance
 use Rattle.distance.specs.declared.HopsAnswer as distance-code
-use Rattle.portion.specs.Listing.{listingFor, portionFault, portionFor, endedFor, Portioned}
+use Rattle.portion.specs.Listing.{listingFor, portionFault, portionNumbers, portionFor, endedFor, Portioned}
 use Rattle.listing.specs.Portions.{Start, startsAfter}
 use Rattle.refusals.specs.Answers.{answerSaid, answerFor}
 use Rattle.refusals.specs.declared.Answer as code
+use Rattle.refusals.proofs.Numbered.{upTo, up-to}
 use Rattle.portion.proofs.Instance.{portion-numbered}
 use Rattle.join.specs.Lists as lists
 use Rattle.join.specs.Answers.{Joins}
@@ -43,21 +44,21 @@ pub fewest-refused : (file : List ℕ) (q : Question) (person : ℕ) {answer : d
 unfolding distance.answered
 fewest-refused file q person {number = number} {place} is e = go (firstOf (fileFault file) (personFault (personCount file) q person)) (fewest (next file q) (q .to) (q .hops) person) (person-numbered file q person) (sym is ∙ ap distance.hopsSaid e)
   where
-    go : (f : Fault) (h : ℕ) → Numbered 20 f → distance.unlessRefused f h ≡ distance.refused number place → number ≤ 20
+    go : (f : Fault) (h : ℕ) → Numbered askedNumbers f → distance.unlessRefused f h ≡ distance.refused number place → number ≤ 20
     go sound h i e = let z : _≡_ {A = ℕ} 0 1 = cc in absurd (omega arith)
-    go (fault r p) h i e = let same : r ≡ number = cc in omega (arith, i .1)
+    go (fault r p) h i e = let same : r ≡ number = cc in omega (arith, up-to 20 askedNumbers refl (i .0))
 
 -- an answer has room in 64 bits if its numbers have
-answer-small : (f : Fault) (n : ℕ) (ended : Bool) → Numbered 20 f → n < 2 ^ 62 → Small (answerFor f n ended)
-answer-small sound n ended i h = h
-answer-small (fault number place) n ended i h = (i .1, i .2)
+answer-small : (numbers : List ℕ) → upTo 20 numbers ≡ true → (f : Fault) (n : ℕ) (ended : Bool) → Numbered numbers f → n < 2 ^ 62 → Small (answerFor f n ended)
+answer-small numbers few sound n ended i h = h
+answer-small numbers few (fault number place) n ended i h = (omega (arith, up-to 20 numbers few (i .0)), i .1)
 
 pub portion-small : (file : List ℕ) (q : Question) {start : Start} {out out′ : List ℕ} {answer : code.Answer} → Portioned file q start out out′ answer → length out < 2 ^ 62 → Small (answerSaid answer)
 portion-small file q {start} {out} p h =
     let few : length (portionFor file q start out) < 2 ^ 62 = omega (arith, length-take (roomOf recordSize (length out)) (after (startsAfter start) (listingFor file q))) in
-    subst Small (sym (p .answers)) (answer-small (portionFault file q start out) (length (portionFor file q start out)) (endedFor file q start out) (portion-numbered file q start out) few)
+    subst Small (sym (p .answers)) (answer-small portionNumbers refl (portionFault file q start out) (length (portionFor file q start out)) (endedFor file q start out) (portion-numbered file q start out) few)
 
 pub join-small : {file : List ℕ} {q : Question} {working working′ out out′ : List ℕ} {answer : code.Answer} → Joins file q working working′ out out′ answer → length out < 2 ^ 62 → Small (answerSaid answer)
 join-small {file} {q} {working} {out = out} p h =
     let few : length (lists.firstOnes (lists.chainsFor file q) out) < 2 ^ 62 = omega (arith, length-take (roomOf recordSize (length out)) (lists.chainsFor file q)) in
-    subst Small (sym (p .answers)) (answer-small (lists.joinFault file q working out) (length (lists.firstOnes (lists.chainsFor file q) out)) (lists.allFit (lists.chainsFor file q) out) (join-numbered file q working out) few)
+    subst Small (sym (p .answers)) (answer-small lists.joinNumbers refl (lists.joinFault file q working out) (length (lists.firstOnes (lists.chainsFor file q) out)) (lists.allFit (lists.chainsFor file q) out) (join-numbered file q working out) few)

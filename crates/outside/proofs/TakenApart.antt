@@ -7,7 +7,7 @@ use borrow.Author.Tests.{eq-eqb, ne-eqb}
 use Rattle.outside.specs.Encoded.{refusalNumber, endedNumber}
 use Rattle.outside.specs.TakenApart.{refusalIn, placeIn, countIn, endedIn, personsIn, linksIn, feedsIn}
 
-pub refusal-apart : (number place : ℕ) → number ≤ 20 → place < 2 ^ 32 → (refusalIn (refusalNumber number place) ≡ number) × (placeIn (refusalNumber number place) ≡ place)
+pub refusal-apart : (number place : ℕ) → number < 2 ^ 31 → place < 2 ^ 32 → (refusalIn (refusalNumber number place) ≡ number) × (placeIn (refusalNumber number place) ≡ place)
 refusal-apart number place h i = (omega arith, omega arith)
 
 pub listed-apart : (count : ℕ) (ended : Bool) → count < 2 ^ 62 → (countIn (count + endedNumber ended * 2 ^ 62) ≡ count) × (endedIn (count + endedNumber ended * 2 ^ 62) ≡ ended)

@@ -2,7 +2,7 @@
 use mathlib.Core.Path.{_≡_}
 use mathlib.Core.Bool.{Bool, true, false}
 use mathlib.Core.List.{List}
-use Prim.Native.Nat.{ℕ, _+_, _*_, _^_, _<_, _≤_}
+use Prim.Native.Nat.{ℕ, _+_, _*_, _^_, _<_}
 use lib.ListN.{length}
 use Rattle.checking.specs.Verdict.{Verdict, passed, refused}
 use Rattle.checking.specs.Checked.{checked}
@@ -46,7 +46,7 @@ listedNumber (answers.refused number place) = refusalNumber number place
 -- an answer whose numbers have room in it
 abbrev pub Small : answers.Answer → Type 0
 Small (answers.listed count ended) = count < 2 ^ 62
-Small (answers.refused number place) = (number ≤ 20) × (place < 2 ^ 32)
+Small (answers.refused number place) = (number < 2 ^ 31) × (place < 2 ^ 32)
 
 -- what each function answers, and the lent cells at exit: the promise of the operation behind it, its answer as a number
 abbrev pub CheckNumber : List ℕ → ℕ → Type 0

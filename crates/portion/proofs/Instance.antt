@@ -4,7 +4,6 @@ use mathlib.Core.List.{List, [], _∷_}
 use Prim.Native.Nat.{ℕ, _<_}
 use native.Mathlib.Omega.{arith}
 use Rattle.refusals.specs.Faults.{sound, Numbered}
-use Rattle.refusals.proofs.Numbered.{numbered-more}
 use Rattle.ways.specs.Order.{Rising}
 use Rattle.ways.specs.Listing.{ways, listing}
 use Rattle.ways.specs.Portions.{after}
@@ -13,14 +12,14 @@ use Rattle.ways.proofs.After.{after-start}
 use Rattle.ways.proofs.Ordered.{ordered}
 use Rattle.ways.proofs.Records.{listing-fits}
 use Rattle.question.specs.declared.Question.{Question}
-use Rattle.question.specs.Asked.{askedFault}
+use Rattle.question.specs.Asked.{askedFault, askedNumbers}
 use Rattle.question.specs.Admission.{next}
 use Rattle.question.proofs.Answerable.{asked-answerable}
 use Rattle.question.proofs.Leads.{next-rising}
 use Rattle.question.proofs.Numbered.{asked-numbered}
 use Rattle.listing.specs.Portions.{Listing, Start}
 use Rattle.listing.proofs.Numbered as any
-use Rattle.portion.specs.Listing.{listingFor, portionFault}
+use Rattle.portion.specs.Listing.{listingFor, portionFault, portionNumbers}
 
 module _ (file : List ℕ) (q : Question) where
   -- a fresh start comes before every chain, whether file and question pass or not
@@ -38,5 +37,5 @@ module _ (file : List ℕ) (q : Question) where
       fits = listing-fits (next file q) (q .from) (q .to) (q .hops) recordSize (omega (arith, asked-answerable file q asked .proper .most));
     }
 
-  pub portion-numbered : (start : Start) (out : List ℕ) → Numbered 20 (portionFault file q start out)
-  portion-numbered start out = any.portion-numbered 20 (omega arith) (askedFault file q) (asked-numbered file q) (listingFor file q) start out
+  pub portion-numbered : (start : Start) (out : List ℕ) → Numbered portionNumbers (portionFault file q start out)
+  portion-numbered start out = any.portion-numbered askedNumbers (askedFault file q) (asked-numbered file q) (listingFor file q) start out

@@ -6,9 +6,9 @@ use Rattle.refusals.specs.Faults.{Fault}
 use Rattle.refusals.specs.declared.Answer as code
 use Rattle.ways.specs.Listing.{listing}
 use Rattle.question.specs.declared.Question.{Question}
-use Rattle.question.specs.Asked.{askedFault}
+use Rattle.question.specs.Asked.{askedFault, askedNumbers}
 use Rattle.question.specs.Admission.{next}
-use Rattle.listing.specs.Portions.{Start, refusalOf, portionOf, endedOf}
+use Rattle.listing.specs.Portions.{Start, refusalOf, portionNumbersAfter, portionOf, endedOf}
 use Rattle.listing.specs.Answers.{PortionOf}
 use Rattle.listing.specs.EndToEnd as any
 
@@ -16,9 +16,12 @@ use Rattle.listing.specs.EndToEnd as any
 abbrev pub listingFor : List ℕ → Question → List (List ℕ)
 listingFor file q = listing (next file q) (q .from) (q .to) (q .hops)
 
--- the first refusal of a portion: 1 to 9, 10 to 15, 16 (output under ten cells), 17
+-- the first refusal of a portion: 1 to 9, 10 to 15, 20, 16 (output under ten cells), 17
 abbrev pub portionFault : List ℕ → Question → Start → List ℕ → Fault
 portionFault file q start out = refusalOf (askedFault file q) (listingFor file q) start out
+
+abbrev pub portionNumbers : List ℕ
+portionNumbers = portionNumbersAfter askedNumbers
 
 -- "the first r chains after the bookmark, or all if fewer"
 abbrev pub portionFor : List ℕ → Question → Start → List ℕ → List (List ℕ)

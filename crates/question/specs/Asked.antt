@@ -1,7 +1,7 @@
 -- A question, and when it is refused. Definitions only.
 -- "From, to, hops k (1 to 8), classes (a sum of classes, 1 to 15), date meaning (1 or 2), first day, last day."
 -- "The question gains an eighth number, 1 to admit undated links, 0 to leave them out."
-use mathlib.Core.List.{List}
+use mathlib.Core.List.{List, [], _∷_, _++_}
 use mathlib.Core.Bool.{Bool, not, _&&_}
 use Prim.Native.Nat.{ℕ}
 use lib.Dec.{eqb, leb, ltb}
@@ -9,7 +9,7 @@ use Rattle.format.specs.Numbers.{within}
 use Rattle.refusals.specs.Faults.{Fault, sound, unless, firstOf}
 use Rattle.refusals.specs.Answers.{roomFault}
 use Rattle.format.specs.Format.{personCount, lastDay}
-use Rattle.checking.specs.Checked.{fileFault}
+use Rattle.checking.specs.Checked.{fileFault, fileNumbers}
 use Rattle.ways.specs.Sizes.{mostHops}
 use Rattle.question.specs.declared.Question.{Question}
 
@@ -44,6 +44,13 @@ askedFault file q = firstOf (fileFault file) (questionFault (personCount file) q
 -- the same for a question that names one person more
 abbrev pub askedOfFault : List ℕ → Question → ℕ → Fault
 askedOfFault file q person = firstOf (fileFault file) (personFault (personCount file) q person)
+
+-- the numbers that a question is refused with, in this order, and those of a file and a question
+abbrev pub ownNumbers : List ℕ
+ownNumbers = 10 ∷ 11 ∷ 12 ∷ 13 ∷ 14 ∷ 15 ∷ 20 ∷ []
+
+abbrev pub askedNumbers : List ℕ
+askedNumbers = fileNumbers ++ ownNumbers
 
 -- the same for so many output cells: 16 comes after the question's refusals
 abbrev pub askedRoomFault : List ℕ → Question → ℕ → Fault

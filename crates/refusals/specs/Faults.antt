@@ -1,6 +1,8 @@
 -- Faults, and looks laid one behind the other: the first that finds one decides. Definitions only.
 use mathlib.Core.Bool.{Bool, true, false}
-use Prim.Native.Nat.{ℕ, zero, suc, _^_, _≤_, _<_}
+use mathlib.Core.List.{List}
+use Prim.Native.Nat.{ℕ, zero, suc, _^_, _<_}
+use Rattle.ways.specs.Graph.{_∈_}
 use Rattle.refusals.specs.declared.Fault as code
 
 -- a fault has the number of its refusal and its place
@@ -28,14 +30,10 @@ unfoldable pub firstAmong : (ℕ → Fault) → ℕ → ℕ → Fault
 firstAmong look from zero = sound
 firstAmong look from (suc count) = firstOf (look from) (firstAmong look (suc from) count)
 
--- a fault, if there is one, has one of the numbers from the lowest to the last, and a place of 32 bits
-abbrev pub NumberedFrom : ℕ → ℕ → Fault → Type 0
-NumberedFrom lowest last sound = Unit {0}
-NumberedFrom lowest last (fault number place) = (lowest ≤ number) × (number ≤ last) × (place < 2 ^ 32)
-
--- the customer's numbers start at 1
-abbrev pub Numbered : ℕ → Fault → Type 0
-Numbered last = NumberedFrom 1 last
+-- a fault, if there is one, has one of these numbers, and a place of 32 bits
+abbrev pub Numbered : List ℕ → Fault → Type 0
+Numbered numbers sound = Unit {0}
+Numbered numbers (fault number place) = (number ∈ numbers) × (place < 2 ^ 32)
 
 -- "All lent memory stays as it came" where there is a fault; else it is as it was left
 abbrev pub lent : {A : Type 0} → Fault → A → A → A
