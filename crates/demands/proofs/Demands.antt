@@ -1,4 +1,4 @@
--- The three demands, proved; the fewest hops, and what is told at the C door.
+-- The three demands, proved; the fewest hops, what a question's eighth number does, and what is told at the C door.
 use mathlib.Core.Path.{_≡_}
 use mathlib.Core.List.{List}
 use Prim.Native.Nat.{ℕ}
@@ -6,12 +6,14 @@ use Rattle.refusals.specs.Faults.{sound}
 use Rattle.question.specs.declared.Question.{Question}
 use Rattle.question.specs.Asked.{askedFault}
 use Rattle.demands.specs.Demands.{DemandOne, DemandTwo, DemandThree, FewestAsSaid}
+use Rattle.demands.specs.Undated.{UndatedAsSaid}
 use Rattle.demands.specs.Door.{AtTheDoor}
 use Rattle.demands.proofs.OneResult.{one-result}
 use Rattle.demands.proofs.Ending.{every-ends, refusal-leaves}
 use Rattle.demands.proofs.Paths as paths
 use Rattle.demands.proofs.Laid as laid
 use Rattle.demands.proofs.Fewest as fewest
+use Rattle.demands.proofs.Undated as undated
 use Rattle.demands.proofs.Door as door
 
 -- whatever came in
@@ -27,6 +29,9 @@ demand-three = laid.demand-three
 
 pub fewest-as-said : FewestAsSaid
 fewest-as-said = fewest.fewest-as-said
+
+pub undated-as-said : UndatedAsSaid
+undated-as-said = undated.undated-as-said
 
 pub at-the-door : AtTheDoor
 at-the-door = door.at-the-door

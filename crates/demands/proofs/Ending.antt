@@ -83,9 +83,9 @@ portion-ends : (file : List ℕ) (q : Question) {start : Start} {out out′ : Li
 portion-ends file q {start} {out} {answer = answer} p =
     listing-ends (portionFault file q start out) portionNumbers (length (portionFor file q start out)) (endedFor file q start out) answer (portion-numbered file q start out) (p .answers)
 
-join-ends : {file : List ℕ} {q : Question} {working working′ out out′ : List ℕ} {answer : Answer} → Joins file q working working′ out out′ answer
+join-ends : (file : List ℕ) (q : Question) {working working′ out out′ : List ℕ} {answer : Answer} → Joins file q working working′ out out′ answer
     → Ends refused (joinFault file q working out) joinNumbers (answerSaid answer)
-join-ends {file} {q} {working} {out = out} {answer = answer} j =
+join-ends file q {working} {out = out} {answer = answer} j =
     listing-ends (joinFault file q working out) joinNumbers (length (firstOnes (chainsFor file q) out)) (allFit (chainsFor file q) out) answer (join-numbered file q working out) (j .answers)
 
 pub every-ends : EveryEnds
@@ -101,5 +101,5 @@ refusal-leaves =
     record {
       portion = λ file q {start} {out} p said. let f = first-fault (portionFault file q start out) (portion-ends file q p) said in p .cells ∙ rw (f .2);
       held = λ {file} {held} {held′} {out} m said. let f = first-fault (portionFault file (held .question) (startOf held) out) (portion-ends file (held .question) (m .portioned)) said in (m .keeps ∙ rw (f .2), m .portioned .cells ∙ rw (f .2));
-      join = λ {file} {q} {working} {working′} {out} j said. let f = first-fault (joinFault file q working out) (join-ends j) said in (j .shelf ∙ rw (f .2), j .cells ∙ rw (f .2));
+      join = λ file q {working} {working′} {out} j said. let f = first-fault (joinFault file q working out) (join-ends file q j) said in (j .shelf ∙ rw (f .2), j .cells ∙ rw (f .2));
     }

@@ -4,5 +4,6 @@ pub mod Ending
 pub mod Paths
 pub mod Laid
 pub mod Fewest
+pub mod Undated
 pub mod Door
 pub mod Demands

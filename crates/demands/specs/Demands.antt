@@ -55,7 +55,7 @@ pub record EveryEnds : Type 0 where
       → Ends refused (portionFault file q start out) portionNumbers (answerSaid answer)
   pub held : {file : List ℕ} {held held′ : Held} {out out′ : List ℕ} {answer : Answer} → MovedOn file held held′ out out′ answer
       → Ends refused (portionFault file (held .question) (startOf held) out) portionNumbers (answerSaid answer)
-  pub join : {file : List ℕ} {q : Question} {working working′ out out′ : List ℕ} {answer : Answer} → Joins file q working working′ out out′ answer
+  pub join : (file : List ℕ) (q : Question) {working working′ out out′ : List ℕ} {answer : Answer} → Joins file q working working′ out out′ answer
       → Ends refused (joinFault file q working out) joinNumbers (answerSaid answer)
 
 -- the operations that are lent cells for writing. The file and a bookmark are lent for reading only (`&`): the language lets nobody
@@ -65,7 +65,7 @@ pub record RefusalLeaves : Type 0 where
       → answerSaid answer ≡ refused number place → out′ ≡ out
   pub held : {file : List ℕ} {held held′ : Held} {out out′ : List ℕ} {answer : Answer} {number place : ℕ} → MovedOn file held held′ out out′ answer
       → answerSaid answer ≡ refused number place → (held′ ≡ held) × (out′ ≡ out)
-  pub join : {file : List ℕ} {q : Question} {working working′ out out′ : List ℕ} {answer : Answer} {number place : ℕ} → Joins file q working working′ out out′ answer
+  pub join : (file : List ℕ) (q : Question) {working working′ out out′ : List ℕ} {answer : Answer} {number place : ℕ} → Joins file q working working′ out out′ answer
       → answerSaid answer ≡ refused number place → (working′ ≡ working) × (out′ ≡ out)
 
 -- Demand 1

@@ -18,12 +18,12 @@ use Rattle.question.specs.declared.Question.{Question}
 use Rattle.question.specs.Admission.{next}
 use Rattle.join.specs.Lists.{chainsFor, joinFault, firstOnes, allFit}
 use Rattle.refusals.specs.Answers.{Answer, listed, answerFor, cellsFor}
-use Rattle.join.specs.Answers.{Joins}
+use Rattle.join.specs.Answers.{JoinOf, Joins}
 use Rattle.refusals.specs.declared.Answer as code
 use Rattle.refusals.proofs.Answers.{answer-said}
 
-pub join-one : {file : List ℕ} {q : Question} {working working₁ working₂ out out₁ out₂ : List ℕ} {a b : code.Answer} → Joins file q working working₁ out out₁ a → Joins file q working working₂ out out₂ b
-    → (a ≡ b) × (working₁ ≡ working₂) × (out₁ ≡ out₂)
+pub join-one : {first : Fault} {halfChains chains : List (List ℕ)} {working working₁ working₂ out out₁ out₂ : List ℕ} {a b : code.Answer}
+    → JoinOf first halfChains chains working working₁ out out₁ a → JoinOf first halfChains chains working working₂ out out₂ b → (a ≡ b) × (working₁ ≡ working₂) × (out₁ ≡ out₂)
 join-one {a = a} {b} p q = (answer-said a b (p .answers ∙ sym (q .answers)), p .shelf ∙ sym (q .shelf), p .cells ∙ sym (q .cells))
 
 -- the joined list has exactly the members of the listing
@@ -37,8 +37,8 @@ pub record Whole (file : List ℕ) (q : Question) (out out′ : List ℕ) (count
   pub all : count ≡ length chains
   pub cells : out′ ≡ written recordSize chains out
 
-pub join-whole : {file : List ℕ} {q : Question} {working working′ out out′ : List ℕ} {count : ℕ} → Joins file q working working′ out out′ (code.the-variants.Listed count true) → Whole file q out out′ count
-join-whole {file} {q} {working} {out = out} {out′} {count} j = go (joinFault file q working out) (allFit (chainsFor file q) out) refl (j .answers) (j .cells)
+pub join-whole : (file : List ℕ) (q : Question) {working working′ out out′ : List ℕ} {count : ℕ} → Joins file q working working′ out out′ (code.the-variants.Listed count true) → Whole file q out out′ count
+join-whole file q {working} {out = out} {out′} {count} j = go (joinFault file q working out) (allFit (chainsFor file q) out) refl (j .answers) (j .cells)
   where
     fits : allFit (chainsFor file q) out ≡ true → firstOnes (chainsFor file q) out ≡ chainsFor file q
     fits e = take-all (roomOf recordSize (length out)) (chainsFor file q) (leb-true (length (chainsFor file q)) (roomOf recordSize (length out)) e)

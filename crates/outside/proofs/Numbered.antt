@@ -58,7 +58,7 @@ portion-small file q {start} {out} p h =
     let few : length (portionFor file q start out) < 2 ^ 62 = omega (arith, length-take (roomOf recordSize (length out)) (after (startsAfter start) (listingFor file q))) in
     subst Small (sym (p .answers)) (answer-small portionNumbers refl (portionFault file q start out) (length (portionFor file q start out)) (endedFor file q start out) (portion-numbered file q start out) few)
 
-pub join-small : {file : List ℕ} {q : Question} {working working′ out out′ : List ℕ} {answer : code.Answer} → Joins file q working working′ out out′ answer → length out < 2 ^ 62 → Small (answerSaid answer)
-join-small {file} {q} {working} {out = out} p h =
+pub join-small : (file : List ℕ) (q : Question) {working working′ out out′ : List ℕ} {answer : code.Answer} → Joins file q working working′ out out′ answer → length out < 2 ^ 62 → Small (answerSaid answer)
+join-small file q {working} {out = out} p h =
     let few : length (lists.firstOnes (lists.chainsFor file q) out) < 2 ^ 62 = omega (arith, length-take (roomOf recordSize (length out)) (lists.chainsFor file q)) in
     subst Small (sym (p .answers)) (answer-small lists.joinNumbers refl (lists.joinFault file q working out) (length (lists.firstOnes (lists.chainsFor file q) out)) (lists.allFit (lists.chainsFor file q) out) (join-numbered file q working out) few)

@@ -8,15 +8,18 @@ ghost use Prim.Native.Nat.{_≤_};
 ghost use lib.ListN.{length};
 ghost use Rattle.outside.specs.HeldCells.{heldSize, storedSize, heldWhole, undatedIn, heldOf, heldCells};
 
-// The numbers of a question, and those of one stored before.
+// The numbers of a question.
 const NUMBERS: usize = 8;
 
+// The numbers of one stored before, and what the number that it lacks counts as.
 const STORED_NUMBERS: usize = 7;
+
+const STORED_UNDATED: u32 = 1;
 
 // The cells of a held listing behind its question.
 const BEHIND: usize = 1 + RECORD;
 
-// The cells of a held listing, and of one stored before.
+// All its cells, and those of one stored before.
 const HELD: usize = NUMBERS + BEHIND;
 
 const STORED_HELD: usize = STORED_NUMBERS + BEHIND;
@@ -28,14 +31,14 @@ pub fn is_held(cells: usize) -> bool
     cells == HELD || cells == STORED_HELD
 }
 
-// What the question says of undated links: where no cell says it, they count.
+// What the question says of undated links.
 fn undated_in(lent: &[u32]) -> u32
     ensures { λ r. ⌜ r ≡ undatedIn (now (lent .entry)) ⌝ }
 {
     if lent.len() == HELD {
         return lent[STORED_NUMBERS];
     }
-    1
+    STORED_UNDATED
 }
 
 // The held listing in its cells.

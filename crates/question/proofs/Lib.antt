@@ -1,7 +1,8 @@
--- Laws of this room: what a question that passes is, whom admitted links lead to, and how the graph grows.
+-- Laws of this room: what a question that passes is, whom admitted links lead to, what the eighth number does, and how the graph grows.
 pub mod Refused
 pub mod Answerable
 pub mod Numbered
 pub mod Classed
 pub mod Leads
+pub mod Undated
 pub mod Growing

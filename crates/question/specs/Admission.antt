@@ -37,9 +37,13 @@ numbersFrom from (suc count) = from ∷ numbersFrom (suc from) count
 abbrev pub owned : List ℕ → ℕ → List ℕ
 owned file person = numbersFrom (row file person) (row file (person + 1) - row file person)
 
--- the persons that a person's admitted links lead to, in row order; nobody from a person who is not in the file
+-- the persons that a person's links lead to, those of them that pass a test, in row order; nobody from a person who is not in the file
+abbrev pub leads : List ℕ → (ℕ → Bool) → Graph
+leads file test person = cond (ltb person (personCount file)) (map (target file) (keep test (owned file person))) []
+
+-- the persons that a person's admitted links lead to
 unfoldable pub next : List ℕ → Question → Graph
-next file q person = cond (ltb person (personCount file)) (map (target file) (keep (admitted file q) (owned file person))) []
+next file q = leads file (admitted file q)
 
 -- the same by one link: a link of a person of the file that is admitted, and whose target is v
 pub record AdmittedLink (file : List ℕ) (q : Question) (person v : ℕ) : Type 0 where

@@ -8,7 +8,7 @@ use Rattle.outside.proofs.kin_join.Tie as tie
 listed-number-requires : tie.Need-listed-number-requires
 listed-number-requires c κs =
     let at-start = c .before .before .before .before .before .before .before .before .before .before .before in
-    join-small (c .before .before .before .before .join .ensures) (omega (arith, at-start .good))
+    join-small _ _ (c .before .before .before .before .join .ensures) (omega (arith, at-start .good))
 
 returns : tie.Need-returns
 returns c =
@@ -16,7 +16,7 @@ returns c =
     let at-asking = c .before .before .before .before .before .before .before .before .asking in
     let at-start = c .before .before .before .before .before .before .before .before .before .before .before .before in
     rw (← at-asking .ensures)
-    (record { answer = at-join .result; joins = at-join .ensures; small = join-small (at-join .ensures) (omega (arith, at-start .good)); answers = c .listed-number .ensures })
+    (record { answer = at-join .result; joins = at-join .ensures; small = join-small _ _ (at-join .ensures) (omega (arith, at-start .good)); answers = c .listed-number .ensures })
 
 pub kin-join-spec : {M : Type 1} → statement M
 kin-join-spec =
