@@ -410,7 +410,7 @@ class RandomFiles(Case):
     def test_listings_against_trying_every_sequence(self):
         chance = random.Random(self.SEED)
         chains_seen = 0
-        for run in range(400):
+        for run in range(800):
             persons, feeds = chance.randint(2, 6), [(3, 1), (8, 2)]
             rows = random_rows(chance, persons, len(feeds))
             question = random_question(chance, persons)
