@@ -67,8 +67,7 @@ def random_rows(chance, persons, feeds):
 def random_question(chance, persons):
     ends = chance.sample(range(persons), 2)
     classes = chance.choice([15, chance.randint(1, 15)])
-    days = chance.randint(1, 3), chance.randint(6, 10)
-    return kin.Question(*ends, chance.randint(1, 8), classes, chance.randint(1, 2), *days, chance.choice([False, True]))
+    return kin.Question(*ends, chance.randint(1, 8), classes, chance.randint(1, 2), chance.randint(1, 3), chance.randint(6, 10))
 
 
 def admitted(link, feeds, question):
@@ -409,19 +408,21 @@ class RandomFiles(Case):
 
     def test_listings_against_trying_every_sequence(self):
         chance = random.Random(self.SEED)
-        chains_seen = 0
-        for run in range(800):
+        chains_seen = {True: 0, False: 0}
+        for run in range(400):
             persons, feeds = chance.randint(2, 6), [(3, 1), (8, 2)]
             rows = random_rows(chance, persons, len(feeds))
+            file = link_file(rows, feeds)
             question = random_question(chance, persons)
-            right = chains_by_trying(rows, feeds, question)
-            chains_seen += len(right)
-            with self.subTest(seed=self.SEED, run=run, question=question):
-                file = link_file(rows, feeds)
-                self.assertEqual(listed(question, file, room=chance.randint(1, 5)), right)
-                joined, _ = kin.join(file, question)
-                self.assertEqual(joined.chains, sorted(right, key=len))
-        self.assertGreater(chains_seen, 400)
+            for question in (question, question._replace(undated=False)):
+                right = chains_by_trying(rows, feeds, question)
+                chains_seen[question.undated] += len(right)
+                with self.subTest(seed=self.SEED, run=run, question=question):
+                    self.assertEqual(listed(question, file, room=chance.randint(1, 5)), right)
+                    joined, _ = kin.join(file, question)
+                    self.assertEqual(joined.chains, sorted(right, key=len))
+        self.assertGreater(chains_seen[True], 400)
+        self.assertGreater(chains_seen[False], 30)
 
 
 if __name__ == "__main__":
