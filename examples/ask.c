@@ -23,8 +23,8 @@ int main(void) {
     static uint8_t file[KIN_LONGEST_FILE + 1];
     size_t length = fread(file, 1, sizeof file, stdin);
 
-    /* From, to, hops, all classes, days of events, first and last day; not started, so that the record isn't looked at. */
-    uint32_t held[KIN_HELD_CELLS] = {0, 5, 4, 15, 1, 1, 3652059, 0};
+    /* From, to, hops, all classes, days of events, first and last day, undated links too; not started: the record isn't looked at. */
+    uint32_t held[KIN_HELD_CELLS] = {0, 5, 4, 15, 1, 1, 3652059, 1, 0};
     uint32_t output[ROOM * KIN_RECORD_CELLS];
     size_t chains = 0;
     uint64_t answer;

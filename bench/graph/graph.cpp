@@ -14,7 +14,7 @@ __attribute__((noinline)) static uint64_t plain_fewest(const uint8_t *file, cons
 }
 
 static uint64_t our_fewest(const uint8_t *file, const question *q, uint32_t person) {
-    return kin_fewest(file, LENGTH, q->from, q->to, q->hops, q->classes, q->meaning, q->first, q->last, person);
+    return kin_fewest(file, LENGTH, q->from, q->to, q->hops, q->classes, q->meaning, q->first, q->last, q->undated, person);
 }
 
 // An answer that the compiler has to have, over memory that it has to look at anew, so that no call is left out.
@@ -33,7 +33,7 @@ static void compare(const uint8_t *file, const question *q, const std::string &n
 int main() {
     static uint8_t file[LENGTH];
     write_largest(file);
-    const question every = {0, 1023, 8, 15, 1, 1, LAST_DAY}, few = {0, 1023, 8, 1, 2, 1, 700000};
+    const question every = {0, 1023, 8, 15, 1, 1, LAST_DAY, 1}, few = {0, 1023, 8, 1, 2, 1, 700000, 1};
     compare(file, &every, "all classes");
     compare(file, &few, "one class and a window");
 }

@@ -93,8 +93,8 @@ static uint64_t plain_join(const Bytes &file, const question &q, Cells &working,
 }
 
 static uint64_t our_join(const Bytes &file, const question &q, Cells &working, Cells &out) {
-    return kin_join(file.data(), file.size(), q.from, q.to, q.hops, q.classes, q.meaning, q.first, q.last, working.data(),
-                    working.size(), out.data(), out.size());
+    return kin_join(file.data(), file.size(), q.from, q.to, q.hops, q.classes, q.meaning, q.first, q.last, q.undated,
+                    working.data(), working.size(), out.data(), out.size());
 }
 
 static void listing(const std::string &name, const Links &links, uint32_t hops, size_t halves, size_t chains) {

@@ -3,8 +3,11 @@
 #include "file.h"
 
 typedef struct {
-  uint32_t from, to, hops, classes, meaning, first, last;
+  uint32_t from, to, hops, classes, meaning, first, last, undated;
 } question;
+
+/* The question's numbers as the program reads them, before the file. */
+enum { QUESTION_BYTES = 32 };
 
 static inline uint32_t class_of(uint8_t kind) {
   switch (kind) {
@@ -20,7 +23,7 @@ static inline uint32_t class_of(uint8_t kind) {
 static inline int admitted(const uint8_t *file, const uint8_t *link, const question *q) {
   if ((class_of(link[10]) & q->classes) == 0) return 0;
   uint32_t day = number32(link + 4);
-  if (day == 0) return 1;
+  if (day == 0) return q->undated != 0;
   return q->first <= day && day <= q->last && file[32 + 4 * number16(link + 8) + 2] == q->meaning;
 }
 

@@ -17,13 +17,13 @@ struct Call {
     const uint32_t *bookmark;
 };
 
-inline question asked(uint32_t from, uint32_t to, uint32_t hops) { return {from, to, hops, 15, 1, 1, LAST_DAY}; }
+inline question asked(uint32_t from, uint32_t to, uint32_t hops) { return {from, to, hops, 15, 1, 1, LAST_DAY, 1}; }
 
 // An input of the program: the question, then the file.
 inline Bytes input_of(const question &q, const Bytes &file) {
-    Bytes input(28 + file.size());
+    Bytes input(QUESTION_BYTES + file.size());
     uint8_t *at = input.data();
-    for (uint32_t number : {q.from, q.to, q.hops, q.classes, q.meaning, q.first, q.last}) at = put(at, number, 4);
+    for (uint32_t number : {q.from, q.to, q.hops, q.classes, q.meaning, q.first, q.last, q.undated}) at = put(at, number, 4);
     memcpy(at, file.data(), file.size());
     return input;
 }
@@ -31,7 +31,7 @@ inline Bytes input_of(const question &q, const Bytes &file) {
 inline uint64_t ours(const Call &c, Cells &out) {
     const question &q = c.q;
     return kin_portion(c.file.data(), c.file.size(), q.from, q.to, q.hops, q.classes, q.meaning, q.first, q.last,
-                       c.bookmark ? 1 : 0, c.bookmark, c.bookmark ? RECORD : 0, out.data(), out.size());
+                       q.undated, c.bookmark ? 1 : 0, c.bookmark, c.bookmark ? RECORD : 0, out.data(), out.size());
 }
 
 // It does not test whether the bookmark is a chain.

@@ -63,19 +63,19 @@ inline char *spaced(char *at, uint32_t person) {
 }
 
 struct Input {
-    uint8_t bytes[28 + LENGTH + 1];
+    uint8_t bytes[QUESTION_BYTES + LENGTH + 1];
     size_t length = 0;
     question q{};
 
-    const uint8_t *file() const { return bytes + 28; }
+    const uint8_t *file() const { return bytes + QUESTION_BYTES; }
 
     // What the check answers, or the refusal.
     uint64_t read_all() {
         for (ssize_t n; length < sizeof bytes && (n = read(0, bytes + length, sizeof bytes - length)) > 0;) length += size_t(n);
-        if (length < 28) return refused(19, 0);
-        uint32_t *const numbers[7] = {&q.from, &q.to, &q.hops, &q.classes, &q.meaning, &q.first, &q.last};
-        for (int i = 0; i < 7; ++i) *numbers[i] = number32(bytes + 4 * i);
-        uint64_t verdict = plain_check(file(), length - 28);
+        if (length < QUESTION_BYTES) return refused(19, 0);
+        uint32_t *const numbers[8] = {&q.from, &q.to, &q.hops, &q.classes, &q.meaning, &q.first, &q.last, &q.undated};
+        for (int i = 0; i < 8; ++i) *numbers[i] = number32(bytes + 4 * i);
+        uint64_t verdict = plain_check(file(), length - QUESTION_BYTES);
         if (verdict & REFUSED) return verdict;
         uint64_t fault = question_fault(number32(file() + 4));
         return fault ? fault : verdict;
@@ -89,6 +89,7 @@ struct Input {
         if (q.classes < 1 || q.classes > 15) return refused(13, 0);
         if (q.meaning < 1 || q.meaning > 2) return refused(14, 0);
         if (q.first == 0 || q.last > LAST_DAY || q.first > q.last) return refused(15, 0);
+        if (q.undated > 1) return refused(20, 0);
         return 0;
     }
 };

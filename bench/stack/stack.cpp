@@ -58,7 +58,7 @@ static Cells out(400), working(100000);
 // The calls.
 
 static uint64_t fewest(const Bytes &file, const question &q) {
-    return kin_fewest(file.data(), file.size(), q.from, q.to, q.hops, q.classes, q.meaning, q.first, q.last, 7);
+    return kin_fewest(file.data(), file.size(), q.from, q.to, q.hops, q.classes, q.meaning, q.first, q.last, q.undated, 7);
 }
 
 static uint64_t portion(const Bytes &file, const question &q, const Cells *bookmark) {
@@ -67,21 +67,21 @@ static uint64_t portion(const Bytes &file, const question &q, const Cells *bookm
 
 static uint64_t held(const Bytes &file, const question &q, const Cells *record) {
     static uint32_t cells[KIN_HELD_CELLS];
-    const uint32_t before[] = {q.from, q.to, q.hops, q.classes, q.meaning, q.first, q.last, record ? 1u : 0u};
-    std::copy(before, before + 8, cells);
-    if (record) std::copy(record->begin(), record->end(), cells + 8);
+    const uint32_t before[] = {q.from, q.to, q.hops, q.classes, q.meaning, q.first, q.last, q.undated, record ? 1u : 0u};
+    std::copy(before, before + 9, cells);
+    if (record) std::copy(record->begin(), record->end(), cells + 9);
     return kin_held(cells, KIN_HELD_CELLS, file.data(), file.size(), out.data(), out.size());
 }
 
 static uint64_t join(const Bytes &file, const question &q, size_t cells) {
-    return kin_join(file.data(), file.size(), q.from, q.to, q.hops, q.classes, q.meaning, q.first, q.last, working.data(), cells,
-                    out.data(), out.size());
+    return kin_join(file.data(), file.size(), q.from, q.to, q.hops, q.classes, q.meaning, q.first, q.last, q.undated,
+                    working.data(), cells, out.data(), out.size());
 }
 
 static void rows() {
     const Bytes none(31), dense = file_of(filled_up(all_linked(64))), small = file_of(all_linked(12));
     const question one = asked(0, 63, 1), four = asked(0, 63, 4), eight = asked(0, 63, 8);
-    const question no_days = {0, 63, 8, 15, 1, 2, 1};
+    const question neither = {0, 63, 8, 15, 1, 1, LAST_DAY, 2};
     Bytes late = dense;
     put(late.data() + late.size() - 8, LAST_DAY + 1, 4);
     row({"Function", "refused by 1", "refused last (by)", "answered, 1 hop", "4 hops", "8 hops", "8 hops after a bookmark"});
@@ -92,7 +92,7 @@ static void rows() {
     row({"row view", answered([&] { return kin_row(none.data(), none.size(), 7); }),
          answered([&] { return kin_row(late.data(), late.size(), 7); }),
          answered([&] { return kin_row(dense.data(), dense.size(), 7); })});
-    row({"fewest hops", cell(1, [&] { return fewest(none, eight); }), cell(15, [&] { return fewest(dense, no_days); }),
+    row({"fewest hops", cell(1, [&] { return fewest(none, eight); }), cell(20, [&] { return fewest(dense, neither); }),
          answered([&] { return fewest(dense, one); }), answered([&] { return fewest(dense, four); }),
          answered([&] { return fewest(dense, eight); })});
     row({"portion", cell(1, [&] { return portion(none, eight, nullptr); }),

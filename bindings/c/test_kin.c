@@ -4,8 +4,12 @@
 
 #include "kin.h"
 
-/* The customer's question Q: from 0 to 5, 4 hops, all classes, days of events, all days. */
-#define Q 0, 5, 4, 15, 1, 1, 3652059
+/* The customer's question Q: from 0 to 5, 4 hops, all classes, days of events, all days; as stored before, and with undated. */
+#define STORED_Q 0, 5, 4, 15, 1, 1, 3652059
+#define Q STORED_Q, 1
+
+/* The same from day 700001 on: of the three chains those two are left that begin with an undated link. Undated is to follow. */
+#define LATE 0, 5, 4, 15, 1, 700001, 3652059
 
 enum { UNTOUCHED = 77777 };
 
@@ -65,7 +69,7 @@ static void test_row_and_fewest(void) {
     expect("row of 1", kin_row(file, length, 1), 24);
     expect("row of 6", kin_row(file, length, 6), 0);
     expect("fewest from 0", kin_fewest(file, length, Q, 0), 3);
-    expect("fewest in one hop", kin_fewest(file, length, 0, 5, 1, 15, 1, 1, 3652059, 0), 2);
+    expect("fewest in one hop", kin_fewest(file, length, 0, 5, 1, 15, 1, 1, 3652059, 1, 0), 2);
     expect_refused("fewest from 6", kin_fewest(file, length, Q, 6), 10, 2);
 }
 
@@ -83,15 +87,69 @@ static void test_portion(void) {
     expect_record("third", next, THIRD);
 }
 
+static void test_undated(void) {
+    uint32_t working[50], output[30];
+    expect_listed("undated links count", kin_portion(file, length, LATE, 1, 0, NULL, 0, output, 30), 2, 1);
+    expect_record("undated links count", output, SECOND);
+    expect_record("undated links count", output + KIN_RECORD_CELLS, THIRD);
+    expect("undated links count", kin_fewest(file, length, LATE, 1, 0), 3);
+    set_untouched(working, 50);
+    set_untouched(output, 30);
+    expect_listed("undated links left out", kin_portion(file, length, LATE, 0, 0, NULL, 0, output, 30), 0, 1);
+    expect("undated links left out", kin_fewest(file, length, LATE, 0, 0), 5);
+    expect_listed("undated links left out", kin_join(file, length, LATE, 0, working, 50, output, 30), 0, 1);
+    expect("half chains all the same", working[1], 5);
+    set_untouched(working, 50);
+    expect_refused("undated 2", kin_fewest(file, length, LATE, 2, 0), 20, 0);
+    expect_refused("undated 2", kin_portion(file, length, LATE, 2, 0, NULL, 0, output, 30), 20, 0);
+    expect_refused("undated 2", kin_join(file, length, LATE, 2, working, 50, output, 30), 20, 0);
+    expect_untouched("undated 2", working, 50);
+    expect_untouched("undated 2", output, 30);
+}
+
 static void test_held(void) {
     uint32_t held[KIN_HELD_CELLS] = {Q, 0}, output[30];
     set_untouched(output, 30);
-    expect("17 cells", kin_held(held, 17, file, length, output, 30), (uint64_t)1 << 63);
-    expect_untouched("17 cells", output, 30);
+    held[7] = 2;
+    expect_refused("held, undated 2", kin_held(held, KIN_HELD_CELLS, file, length, output, 30), 20, 0);
+    expect_untouched("held, undated 2", output, 30);
+    expect("as it was", held[7], 2);
+    held[7] = 1;
     expect_listed("held", kin_held(held, KIN_HELD_CELLS, file, length, output, 30), 3, 1);
-    expect("started", held[7], 1);
-    expect_record("kept", held + 8, THIRD);
+    expect("undated", held[7], 1);
+    expect("started", held[8], 1);
+    expect_record("kept", held + 9, THIRD);
     expect_listed("held, over", kin_held(held, KIN_HELD_CELLS, file, length, output, 30), 0, 1);
+}
+
+static void test_held_of_another_size(void) {
+    static const size_t sizes[] = {0, 17, 20};
+    for (size_t size = 0; size < sizeof sizes / sizeof *sizes; size++) {
+        uint32_t held[20] = {Q, 0}, output[30];
+        set_untouched(output, 30);
+        expect("another size", kin_held(held, sizes[size], file, length, output, 30), (uint64_t)1 << 63);
+        expect("not started", held[8], 0);
+        expect_untouched("another size", output, 30);
+    }
+}
+
+/* One stored before goes on as one of today does, in its own cells; the cell behind them is nobody's. */
+static void test_stored_held(void) {
+    static const uint32_t *const chains[] = {FIRST, SECOND, THIRD};
+    uint32_t stored[KIN_STORED_HELD_CELLS + 1] = {STORED_Q, 0}, held[KIN_HELD_CELLS] = {Q, 0}, output[10], others[10];
+    stored[KIN_STORED_HELD_CELLS] = UNTOUCHED;
+    for (int chain = 0; chain < 3; chain++) {
+        uint64_t answer = kin_held(stored, KIN_STORED_HELD_CELLS, file, length, output, 10);
+        expect_listed("stored", answer, 1, chain == 2);
+        expect_record("stored", output, chains[chain]);
+        expect("stored, as today's", answer, kin_held(held, KIN_HELD_CELLS, file, length, others, 10));
+        expect_record("stored, as today's", output, others);
+        expect("stored, its question", (uint64_t)memcmp(stored, held, 7 * sizeof *held), 0);
+        expect("stored, started", stored[7], 1);
+        expect_record("stored, kept", stored + 8, held + 9);
+    }
+    expect_listed("stored, over", kin_held(stored, KIN_STORED_HELD_CELLS, file, length, output, 10), 0, 1);
+    expect_untouched("behind the stored one", stored + KIN_STORED_HELD_CELLS, 1);
 }
 
 static void test_join(void) {
@@ -109,7 +167,7 @@ static void test_join(void) {
 
 /* That the words are those of docs/REFUSALS.md, line by line, is asked of what refusal_words.c prints. */
 static void test_refusal_words(void) {
-    expect("no words for 20", (uint64_t)*kin_refusal_words(20), 0);
+    expect("no words for 21", (uint64_t)*kin_refusal_words(21), 0);
     expect("no words for the highest number", (uint64_t)*kin_refusal_words(UINT32_MAX), 0);
 }
 
@@ -124,7 +182,10 @@ int main(void) {
     test_check();
     test_row_and_fewest();
     test_portion();
+    test_undated();
     test_held();
+    test_held_of_another_size();
+    test_stored_held();
     test_join();
     test_refusal_words();
     test_version();

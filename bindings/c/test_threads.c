@@ -8,8 +8,8 @@
 
 #include "kin.h"
 
-/* From the first person to the last in at most eight hops, all classes, days of events, all days: the deepest search there is. */
-#define QUESTION 0, PERSONS - 1, 8, 15, 1, 1, 3652059
+/* From the first person to the last in at most eight hops, over all links: the deepest search there is. */
+#define QUESTION 0, PERSONS - 1, 8, 15, 1, 1, 3652059, 1
 
 enum {
     THREADS = 4,

@@ -6,8 +6,10 @@ import kin
 
 
 def ask() -> None:
+    # Links without a day count, as they do unless it is said otherwise.
+    question = kin.Question(0, 5, 4, undated=True)
     count = 0
-    for chain in kin.chains(sys.stdin.buffer.read(), kin.Question(0, 5, 4)):
+    for chain in kin.chains(sys.stdin.buffer.read(), question):
         print(f"{len(chain) - 1}:", *chain)
         count += 1
     print("end", count)

@@ -21,6 +21,15 @@ SIX_PERSONS = (ROOT / "examples" / "six_persons.klf").read_bytes()
 Q = kin.Question(0, 5, 4)
 FIRST, SECOND, THIRD = (0, 1, 3, 5), (0, 2, 1, 3, 5), (0, 2, 3, 5)
 
+# The question and a held listing after its second chain, as version 1.0.0 pickled them.
+PICKLED_BEFORE = (
+    b"\x80\x04\x95\xbd\x00\x00\x00\x00\x00\x00\x00\x8c\x03kin\x94\x8c\x08Question\x94\x93\x94"
+    b"(K\x00K\x05K\x04h\x00\x8c\x07Classes\x94\x93\x94K\x0f\x85\x94R\x94"
+    b"h\x00\x8c\x0bDateMeaning\x94\x93\x94K\x01\x85\x94R\x94K\x01J\xdb\xb97\x00t\x94\x81\x94"
+    b"\x8c\x08builtins\x94\x8c\x07getattr\x94\x93\x94h\x00\x8c\x0bHeldListing\x94\x93\x94\x8c\nfrom_cells\x94\x86\x94R\x94"
+    b"]\x94(K\x00K\x05K\x04K\x0fK\x01K\x01J\xdb\xb97\x00K\x01K\x04K\x00K\x02K\x01K\x03K\x05K\x00K\x00K\x00K\x00e\x85\x94R\x94\x86\x94."
+)
+
 
 def listed(question, file=SIX_PERSONS, **how):
     return list(kin.chains(file, question, **how))
@@ -66,7 +75,9 @@ def admitted(link, feeds, question):
     class_of_kind = {1: 1, 2: 1, 4: 1, 3: 2, 5: 4, 16: 8, 31: 8}[kind]
     if not class_of_kind & question.classes:
         return False
-    return day == 0 or feeds[feed][1] == question.meaning and question.first_day <= day <= question.last_day
+    if day == 0:
+        return question.undated
+    return feeds[feed][1] == question.meaning and question.first_day <= day <= question.last_day
 
 
 def chains_by_trying(rows, feeds, question):
@@ -103,6 +114,11 @@ class SixPersons(Case):
             (Q._replace(last_day=700_399), []),
             (Q._replace(last_day=datetime.date(1918, 8, 18)), []),
             (Q._replace(hops=8), [FIRST, SECOND, THIRD]),
+            (Q._replace(undated=False), [FIRST]),
+            (Q._replace(undated=0), [FIRST]),
+            (Q._replace(undated=1), [FIRST, SECOND, THIRD]),
+            (Q._replace(first_day=700_001, undated=False), []),
+            (Q._replace(first_day=700_001, undated=True), [SECOND, THIRD]),
         ):
             with self.subTest(question):
                 self.assertEqual(listed(question), right)
@@ -158,7 +174,36 @@ class Questions(Case):
         self.assertIs(of.SPOUSE | of.PARENT_CHILD_SIBLING | of.SAME_PERSON | of.NAMED_TOGETHER, of.ALL)
 
     def test_without_a_word_everything_counts(self):
-        self.assertEqual(Q, (0, 5, 4, kin.Classes.ALL, kin.DateMeaning.EVENT, 1, kin.LAST_DAY))
+        self.assertEqual(Q, (0, 5, 4, kin.Classes.ALL, kin.DateMeaning.EVENT, 1, kin.LAST_DAY, True))
+
+    def test_undated_links_are_left_out_everywhere(self):
+        late = Q._replace(first_day=700_001, undated=False)
+        self.assertEqual(kin.portion(SIX_PERSONS, late), ([], True))
+        self.assertEqual(kin.HeldListing(late).move_on(SIX_PERSONS), ([], True))
+        self.assertEqual(kin.join(SIX_PERSONS, late).portion, ([], True))
+        self.assertIsNone(kin.fewest_hops(SIX_PERSONS, late, 0))
+        self.assertEqual(kin.fewest_hops(SIX_PERSONS, late, 2), 2)
+        self.assert_refused(17, 0, lambda: listed(Q._replace(undated=False), after=THIRD))
+
+    def test_a_number_for_undated_links_is_asked_as_it_is(self):
+        for number in (2, 256, (1 << 32) - 1):
+            question = Q._replace(undated=number)
+            held = kin.HeldListing(question)
+            self.assertEqual((held.cells[7], held.question), (number, question))
+            for asked in (
+                lambda: listed(question),
+                lambda: kin.portion(SIX_PERSONS, question),
+                lambda: kin.join(SIX_PERSONS, question),
+                lambda: kin.fewest_hops(SIX_PERSONS, question, 0),
+                lambda: held.move_on(SIX_PERSONS),
+            ):
+                self.assert_refused(20, 0, asked)
+            self.assertEqual(held.cells, kin.HeldListing(question).cells)
+
+    def test_what_is_neither_a_yes_or_no_nor_a_number_is_not_taken_for_one(self):
+        for undated in (None, "no", 1.0, datetime.date(1, 1, 1)):
+            self.assertRaises(TypeError, listed, Q._replace(undated=undated))
+        self.assertRaises(ValueError, listed, Q._replace(undated=-1))
 
     def test_a_date_is_taken_where_a_day_is(self):
         by_date = Q._replace(first_day=datetime.date.min, last_day=datetime.date.max)
@@ -191,7 +236,7 @@ class Shown(Case):
         held = kin.HeldListing(Q)
         asked = (
             "Question(from_person=0, to_person=5, hops=4, classes=<Classes.ALL: 15>, meaning=<DateMeaning.EVENT: 1>, "
-            "first_day=1, last_day=3652059)"
+            "first_day=1, last_day=3652059, undated=True)"
         )
         self.assertEqual(repr(Q), asked)
         self.assertEqual(repr(held), f"HeldListing({asked}, after=None)")
@@ -207,9 +252,9 @@ class Shown(Case):
         self.assertEqual((list(to_come), to_come.last), ([SECOND, THIRD], THIRD))
 
     def test_cells_that_make_no_sense(self):
-        for cells in ([4_000_000_000] * 18, [3] * 18, [0] * 18):
+        for cells in ([4_000_000_000] * 19, [3] * 19, [0] * 19):
             held = kin.HeldListing.from_cells(cells)
-            self.assertEqual(held.question, tuple(cells[:7]))
+            self.assertEqual(held.question, tuple(cells[:8]))
             self.assertIn("HeldListing(Question(from_person=", repr(held))
 
 
@@ -226,6 +271,7 @@ class Refusals(Case):
             (Q._replace(meaning=3), 14, 0),
             (Q._replace(first_day=0), 15, 0),
             (Q._replace(last_day=kin.LAST_DAY + 1), 15, 0),
+            (Q._replace(undated=2), 20, 0),
         ):
             with self.subTest(question):
                 self.assert_refused(number, place, lambda: listed(question))
@@ -255,7 +301,7 @@ class Refusals(Case):
     def test_meanings_are_the_document_s(self):
         cells = [line.split("|") for line in (ROOT / "docs" / "REFUSALS.md").read_text().splitlines()]
         lines = {int(line[1]): line[2].strip() for line in cells if len(line) > 2 and line[1].strip().isdigit()}
-        self.assertEqual(list(lines), list(range(1, 20)))
+        self.assertEqual(list(lines), list(range(1, 21)))
         for number, meaning in lines.items():
             refused = kin.Refused(number, 7)
             self.assertEqual(refused.meaning, meaning)
@@ -263,7 +309,7 @@ class Refusals(Case):
         self.assertEqual(len(kin.MEANINGS), len(lines))
 
     def test_numbers_without_a_line(self):
-        for number in (0, 20):
+        for number in (0, 21):
             self.assertEqual(str(kin.Refused(number, 0)), f"refused {number} at 0")
 
     def test_a_refusal_survives_being_put_away(self):
@@ -304,6 +350,21 @@ class Portions(Case):
         self.assert_refused(3, 0, lambda: again.move_on(SIX_PERSONS[:-1]))
         self.assertEqual(again.cells, after)
 
+    def test_a_held_listing_put_away_before_goes_on_where_it_was(self):
+        chains = [FIRST, SECOND, THIRD]
+        for place, after in enumerate([None, *chains]):
+            today = kin.HeldListing(Q, after)
+            stored = today.cells[:7] + today.cells[8:]
+            for held in (kin.HeldListing.from_cells(stored), kin.HeldListing.from_cells(tuple(stored))):
+                self.assertEqual((held.cells, held.question, held.last), (today.cells, Q, after))
+                self.assertEqual(held.move_on(SIX_PERSONS), (chains[place:], True))
+
+    def test_what_was_pickled_before(self):
+        question, held = pickle.loads(PICKLED_BEFORE)
+        self.assertEqual(question, Q)
+        self.assertEqual((held.question, held.last), (Q, SECOND))
+        self.assertEqual(held.move_on(SIX_PERSONS), ([THIRD], True))
+
     def test_a_copied_or_pickled_held_listing_moves_on_by_itself(self):
         held = kin.HeldListing(Q)
         held.move_on(SIX_PERSONS, 2)
@@ -313,7 +374,7 @@ class Portions(Case):
             self.assertEqual(held.last, SECOND)
 
     def test_a_held_listing_of_another_size(self):
-        for size in (0, 17, 19):
+        for size in (0, 7, 8, 17, 20):
             self.assertRaises(ValueError, kin.HeldListing.from_cells, [0] * size)
 
 
@@ -347,19 +408,21 @@ class RandomFiles(Case):
 
     def test_listings_against_trying_every_sequence(self):
         chance = random.Random(self.SEED)
-        chains_seen = 0
+        chains_seen = {True: 0, False: 0}
         for run in range(400):
             persons, feeds = chance.randint(2, 6), [(3, 1), (8, 2)]
             rows = random_rows(chance, persons, len(feeds))
+            file = link_file(rows, feeds)
             question = random_question(chance, persons)
-            right = chains_by_trying(rows, feeds, question)
-            chains_seen += len(right)
-            with self.subTest(seed=self.SEED, run=run, question=question):
-                file = link_file(rows, feeds)
-                self.assertEqual(listed(question, file, room=chance.randint(1, 5)), right)
-                joined, _ = kin.join(file, question)
-                self.assertEqual(joined.chains, sorted(right, key=len))
-        self.assertGreater(chains_seen, 400)
+            for question in (question, question._replace(undated=False)):
+                right = chains_by_trying(rows, feeds, question)
+                chains_seen[question.undated] += len(right)
+                with self.subTest(seed=self.SEED, run=run, question=question):
+                    self.assertEqual(listed(question, file, room=chance.randint(1, 5)), right)
+                    joined, _ = kin.join(file, question)
+                    self.assertEqual(joined.chains, sorted(right, key=len))
+        self.assertGreater(chains_seen[True], 400)
+        self.assertGreater(chains_seen[False], 30)
 
 
 if __name__ == "__main__":

@@ -55,7 +55,7 @@ def _load() -> ctypes.CDLL:
     whole_number = ctypes.c_uint32
     file: list[Any] = [ctypes.c_char_p, ctypes.c_size_t]
     cells: list[Any] = [ctypes.POINTER(ctypes.c_uint32), ctypes.c_size_t]
-    question: list[Any] = [whole_number] * 7
+    question: list[Any] = [whole_number] * 8
     for function, takes in (
         (loaded.kin_check, file),
         (loaded.kin_row, [*file, whole_number]),

@@ -19,10 +19,13 @@ ROOM = 1_024
 # Half chains that the join has room for, unless another room is asked for.
 WORKING_ROOM = 65_536
 
-# A held listing is the seven numbers of its question, the started mark and the record of the last chain.
-_STARTED = 7
+# A held listing is the eight numbers of its question, the started mark and the record of the last chain. Before version 2 a question
+# had no number for undated links, and they counted.
+_UNDATED = 7
+_STARTED = _UNDATED + 1
 _RECORD = _STARTED + 1
 _HELD_CELLS = _RECORD + RECORD_CELLS
+_STORED_HELD_CELLS = _HELD_CELLS - 1
 
 # The bit of a listing that says ended; below it stands the count.
 _ENDED = 1 << 62
@@ -56,9 +59,15 @@ class HeldListing:
 
     @classmethod
     def from_cells(cls, cells: Sequence[int]) -> HeldListing:
-        """Takes up again a held listing that was put away."""
+        """Takes up again a held listing that was put away.
+
+        One of 18 cells was put away before version 2. It goes on where it was, over undated links too, as it did; put away again, it
+        has 19 cells.
+        """
+        if len(cells) == _STORED_HELD_CELLS:
+            cells = [*cells[:_UNDATED], True, *cells[_UNDATED:]]
         if len(cells) != _HELD_CELLS:
-            raise ValueError(f"a held listing has {_HELD_CELLS} cells, not {len(cells)}")
+            raise ValueError(f"a held listing has {_HELD_CELLS} cells, or {_STORED_HELD_CELLS} as before version 2, not {len(cells)}")
         held = cls.__new__(cls)
         held._cells = lent(cells)
         return held
@@ -72,7 +81,7 @@ class HeldListing:
 
     @property
     def cells(self) -> list[int]:
-        """What to put away: the seven numbers of the question, started, and the record of the last chain, 18 cells in all."""
+        """What to put away: the eight numbers of the question, started, and the record of the last chain, 19 cells in all."""
         return list(self._cells)
 
     @property
@@ -109,13 +118,13 @@ class Chains(Iterator[Chain]):
 
 
 def fewest_hops(file: Bytes, question: Question, person: int) -> int | None:
-    """The fewest hops from a person to the question's To; None if they are more than the question's hops. Refusals 1 to 15."""
+    """The fewest hops from a person to the question's To; None if they are more than the question's hops. Refusals 1 to 15, 20."""
     fewest = not_refused(library.kin_fewest(*slice_of(unchanging(file)), *numbers_of(question), number(person)))
     return fewest if fewest <= question.hops else None
 
 
 def portion(file: Bytes, question: Question, room: int = ROOM, after: Sequence[int] | None = None) -> Portion:
-    """The first chains, at most so many, in dictionary order; with a bookmark, the first after that chain. Refusals 1 to 17."""
+    """The first chains, at most so many, in dictionary order; with a bookmark, the first after that chain. Refusals 1 to 17, 20."""
     started, *record = _started_and_record(after)
     output = room_for(room)
     answer = library.kin_portion(
@@ -133,7 +142,7 @@ def chains(file: Bytes, question: Question, room: int = ROOM, after: Sequence[in
 
 
 def join(file: Bytes, question: Question, room: int = ROOM, working_room: int = WORKING_ROOM) -> Joined:
-    """The first chains, at most so many, shorter ones first, and all half chains they are joined from. Refusals 1 to 16, 18."""
+    """The first chains, at most so many, shorter ones first, and all half chains they are joined from. Refusals 1 to 16, 18, 20."""
     working, output = room_for(working_room), room_for(room)
     ctypes.memset(working, 0xFF, ctypes.sizeof(working))
     answer = library.kin_join(

@@ -34,9 +34,10 @@ class DateMeaning(enum.IntEnum):
 
 
 class Question(NamedTuple):
-    """What is asked: between whom, in how many hops, over links of which classes, with days of which meaning in which window.
+    """What is asked: between whom, in how many hops, over links of which classes, with days of which meaning in which window,
+    and whether undated links count too.
 
-    Classes, meaning and days may be plain numbers too; the library refuses those that make no sense (10 to 15).
+    Classes, meaning, days and undated may be plain numbers too; the library refuses those that make no sense (10 to 15, 20).
     """
 
     from_person: int
@@ -46,20 +47,23 @@ class Question(NamedTuple):
     meaning: int = DateMeaning.EVENT
     first_day: Day = 1
     last_day: Day = LAST_DAY
+    undated: Union[bool, int] = True
 
 
 def numbers_of(question: Question) -> list[int]:
-    """The seven numbers of a question, in the order in which the library takes them."""
-    *others, first_day, last_day = question
-    return numbers([*others, _day_number(first_day), _day_number(last_day)])
+    """The eight numbers of a question, in the order in which the library takes them."""
+    *others, first_day, last_day, undated = question
+    return numbers([*others, _day_number(first_day), _day_number(last_day), undated])
 
 
 def question_of(asked: Sequence[int]) -> Question:
-    """The question that has these seven numbers, with names where there are any."""
-    from_person, to_person, hops, classes, meaning, first_day, last_day = asked
+    """The question that has these eight numbers, with names where there are any."""
+    from_person, to_person, hops, classes, meaning, first_day, last_day, undated = asked
     if meaning in tuple(DateMeaning):
         meaning = DateMeaning(meaning)
-    return Question(from_person, to_person, hops, Classes(classes), meaning, first_day, last_day)
+    if undated in (False, True):
+        undated = bool(undated)
+    return Question(from_person, to_person, hops, Classes(classes), meaning, first_day, last_day, undated)
 
 
 def _day_number(day: Day) -> int:

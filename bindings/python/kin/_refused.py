@@ -24,7 +24,8 @@ MEANINGS = (
     "The output has fewer than ten cells, so there is no room for one chain.",
     "The bookmark is not ten cells, or it is not the record of a chain of this listing.",
     "The working cells hold fewer records than there are half chains.",
-    "The program's input is shorter than 28 bytes, so there is no whole question in it.",
+    "The program's input is shorter than 32 bytes, so there is no whole question in it.",
+    "The number that says whether undated links count is neither 1, they count, nor 0, they are left out.",
 )
 
 # The bit of an answer that says refused; below it stand the number, from bit 32 on, and the place.

@@ -9,8 +9,13 @@ fn ask() -> Result<(), Box<dyn Error>> {
     let mut file = Vec::new();
     stdin().read_to_end(&mut file)?;
 
+    // Links without a day count, as they do unless it is said otherwise.
+    let question = kin::Question {
+        undated: true,
+        ..kin::Question::between(0, 5, 4)
+    };
     let mut count = 0;
-    for chain in kin::chains(&file, kin::Question::between(0, 5, 4)) {
+    for chain in kin::chains(&file, question) {
         println!("{}", chain?);
         count += 1;
     }

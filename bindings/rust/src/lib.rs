@@ -51,7 +51,7 @@ pub use chain::{chains_in, Chain, RECORD_CELLS};
 pub use chains::{chains, Chains};
 pub use classes::Classes;
 pub use date_meaning::DateMeaning;
-pub use held::{HeldListing, HELD_CELLS};
+pub use held::{HeldListing, HELD_CELLS, STORED_HELD_CELLS};
 pub use links::{links_in, row_view, Link};
 pub use operations::{check, fewest_hops, join, portion, Start};
 pub use question::{Question, LAST_DAY};

@@ -18,6 +18,7 @@ extern "C" {
         meaning: u32,
         first: u32,
         last: u32,
+        undated: u32,
         person: u32,
     ) -> u64;
     fn kin_portion(
@@ -30,6 +31,7 @@ extern "C" {
         meaning: u32,
         first: u32,
         last: u32,
+        undated: u32,
         started: u32,
         bookmark: *const u32,
         bookmark_length: usize,
@@ -54,6 +56,7 @@ extern "C" {
         meaning: u32,
         first: u32,
         last: u32,
+        undated: u32,
         working: *mut u32,
         working_length: usize,
         output: *mut u32,
@@ -72,7 +75,7 @@ pub(crate) fn row(file: &[u8], person: u32) -> u64 {
 }
 
 pub(crate) fn fewest(file: &[u8], question: Question, person: u32) -> u64 {
-    let [from, to, hops, classes, meaning, first, last] = question.numbers();
+    let [from, to, hops, classes, meaning, first, last, undated] = question.numbers();
     // SAFETY: as said above.
     unsafe {
         kin_fewest(
@@ -85,6 +88,7 @@ pub(crate) fn fewest(file: &[u8], question: Question, person: u32) -> u64 {
             meaning,
             first,
             last,
+            undated,
             person,
         )
     }
@@ -97,7 +101,7 @@ pub(crate) fn portion(
     bookmark: &[u32],
     output: &mut [u32],
 ) -> u64 {
-    let [from, to, hops, classes, meaning, first, last] = question.numbers();
+    let [from, to, hops, classes, meaning, first, last, undated] = question.numbers();
     // SAFETY: as said above.
     unsafe {
         kin_portion(
@@ -110,6 +114,7 @@ pub(crate) fn portion(
             meaning,
             first,
             last,
+            undated,
             started,
             bookmark.as_ptr(),
             bookmark.len(),
@@ -139,7 +144,7 @@ pub(crate) fn join(
     working: &mut [u32],
     output: &mut [u32],
 ) -> u64 {
-    let [from, to, hops, classes, meaning, first, last] = question.numbers();
+    let [from, to, hops, classes, meaning, first, last, undated] = question.numbers();
     // SAFETY: as said above.
     unsafe {
         kin_join(
@@ -152,6 +157,7 @@ pub(crate) fn join(
             meaning,
             first,
             last,
+            undated,
             working.as_mut_ptr(),
             working.len(),
             output.as_mut_ptr(),

@@ -7,16 +7,18 @@ pub const LAST_DAY: u32 = 3_652_059;
 
 /// What is asked of a file: between whom, in how many hops, over which links.
 ///
-/// A question may hold any numbers; the library refuses those that make no sense (refusals 10 to 15).
+/// A question may hold any numbers; the library refuses those that make no sense (refusals 10 to 15). Whether undated links
+/// count is a yes or no, and never refused.
 ///
 /// ```
 /// use kin::{Classes, DateMeaning, Question};
 ///
-/// // Family and marriage only, by the day of registration, up to the end of the year 1800.
+/// // Family and marriage only, by the day of registration, up to the end of the year 1800, nothing without a day.
 /// let question = Question {
 ///     classes: Classes::PARENT_CHILD_SIBLING | Classes::SPOUSE,
 ///     meaning: DateMeaning::REGISTRATION,
 ///     last_day: 657_436,
+///     undated: false,
 ///     ..Question::between(0, 5, 4)
 /// };
 /// assert_eq!(question.first_day, 1);
@@ -37,6 +39,8 @@ pub struct Question {
     pub first_day: u32,
     /// The last day that counts.
     pub last_day: u32,
+    /// Whether undated links count too, whatever the days.
+    pub undated: bool,
 }
 
 impl Question {
@@ -50,11 +54,12 @@ impl Question {
             meaning: DateMeaning::EVENT,
             first_day: 1,
             last_day: LAST_DAY,
+            undated: true,
         }
     }
 
-    /// The seven numbers, in the order in which the library takes them.
-    pub(crate) fn numbers(&self) -> [u32; 7] {
+    /// The eight numbers, in the order in which the library takes them.
+    pub(crate) fn numbers(&self) -> [u32; 8] {
         [
             self.from,
             self.to,
@@ -63,13 +68,19 @@ impl Question {
             self.meaning.number(),
             self.first_day,
             self.last_day,
+            u32::from(self.undated),
         ]
     }
 
-    /// The question that has these numbers.
-    pub(crate) fn from_numbers(numbers: [u32; 7]) -> Question {
-        let [from, to, hops, classes, meaning, first_day, last_day] = numbers;
-        Question {
+    /// The question that has these numbers; nothing if the last is no yes or no, since no question here asks that.
+    pub(crate) fn from_numbers(numbers: [u32; 8]) -> Option<Question> {
+        let [from, to, hops, classes, meaning, first_day, last_day, undated] = numbers;
+        let undated = match undated {
+            0 => false,
+            1 => true,
+            _ => return None,
+        };
+        Some(Question {
             from,
             to,
             hops,
@@ -77,6 +88,7 @@ impl Question {
             meaning: DateMeaning::from_number(meaning),
             first_day,
             last_day,
-        }
+            undated,
+        })
     }
 }

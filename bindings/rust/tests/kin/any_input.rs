@@ -1,6 +1,6 @@
 //! Any bytes, any numbers: nothing panics, and a refusal changes no lent cell.
 
-use crate::SIX_PERSONS;
+use crate::{refused, SIX_PERSONS};
 use kin::{
     check, fewest_hops, join, links_in, portion, row_view, Classes, DateMeaning, HeldListing,
     Listed, Question, Refused, Start,
@@ -43,6 +43,7 @@ impl Random {
             classes: Classes::from_number(self.number(16)),
             meaning: DateMeaning::from_number(self.number(2)),
             last_day: self.number(600).wrapping_add(700_000),
+            undated: self.next() % 2 == 0,
             ..Question::between(self.number(6), self.number(6), self.number(9))
         }
     }
@@ -56,7 +57,7 @@ fn hold(answer: Result<Listed, Refused>, file: &[u8], output: &[u32]) {
             assert!(output[10 * count..].iter().all(|&cell| cell == 9));
         }
         Err(refused) => {
-            assert!((1..=18).contains(&refused.number), "{refused}");
+            assert!(matches!(refused.number, 1..=18 | 20), "{refused}");
             assert!(output.iter().all(|&cell| cell == 9));
             let of_the_file = check(file).is_err();
             assert_eq!(of_the_file, refused.number <= 9, "{refused}");
@@ -107,7 +108,22 @@ fn any_held_cells_get_an_answer() {
         if answer.is_err() {
             assert_eq!(*held.cells(), cells);
         }
-        let _ = (held.last(), held.question());
+        assert_eq!(held.question().is_some(), cells[7] < 2);
+        let _ = held.last();
+    }
+}
+
+#[test]
+fn any_stored_cells_get_an_answer_and_never_20() {
+    let mut random = Random(18);
+    for _ in 0..20_000 {
+        let file = random.file();
+        let mut held = HeldListing::from_stored_cells(std::array::from_fn(|_| random.number(6)));
+        let mut output = [9; 25];
+        let answer = held.move_on(&file, &mut output);
+        hold(answer, &file, &output);
+        assert_ne!(answer, Err(refused(20, 0)));
+        assert!(held.question().is_some_and(|question| question.undated));
     }
 }
 

@@ -1,7 +1,7 @@
 //! Listings in portions: the room a portion has shows in nothing, and a listing can be put away and taken up.
 
 use crate::{listed, refused, the_question, SIX_PERSONS};
-use kin::{Chain, Chains, HeldListing, Question, Refused};
+use kin::{Chain, Chains, HeldListing, Question, Refused, LAST_DAY};
 
 /// A file of so many persons, each linked to each by an undated link.
 fn everybody_linked(persons: u32) -> Vec<u8> {
@@ -90,12 +90,12 @@ fn a_listing_goes_on_after_each_of_its_chains() {
 #[test]
 fn a_held_listing_keeps_its_question_and_its_last_chain() {
     let mut held = HeldListing::new(the_question());
-    assert_eq!((held.question(), held.last()), (the_question(), None));
+    assert_eq!((held.question(), held.last()), (Some(the_question()), None));
     let mut output = [0; 10];
     for (place, ended) in [false, false, true].into_iter().enumerate() {
         let answer = held.move_on(SIX_PERSONS, &mut output);
         assert_eq!(answer, Ok(listed(1, ended)), "chain {place}");
-        assert_eq!(held.question(), the_question());
+        assert_eq!(held.question(), Some(the_question()));
         assert_eq!(held.last(), Chain::from_record(&output));
         assert_eq!(HeldListing::from_cells(*held.cells()), held);
     }
@@ -103,6 +103,28 @@ fn a_held_listing_keeps_its_question_and_its_last_chain() {
     let over = held.move_on(SIX_PERSONS, &mut output);
     assert_eq!(over, Ok(listed(0, true)));
     assert_eq!(held, before);
+}
+
+#[test]
+fn a_held_listing_stored_before_goes_on_where_it_was() {
+    let right: Vec<Chain> = kin::chains(SIX_PERSONS, the_question())
+        .map(Result::unwrap)
+        .collect();
+    let mut stored = [0, 5, 4, 15, 1, 1, LAST_DAY, 0, 0, 0, 0, 0, 0, 0, 0, 0, 0, 0];
+    let not_started = HeldListing::from_stored_cells(stored);
+    assert_eq!(not_started, HeldListing::new(the_question()));
+    for (place, chain) in right.iter().enumerate() {
+        stored[7] = 1;
+        stored[8..].copy_from_slice(chain.record());
+        let held = HeldListing::from_stored_cells(stored);
+        assert_eq!(held, HeldListing::after(the_question(), chain));
+        assert_eq!(held.question(), Some(the_question()));
+        let again = HeldListing::from_cells(*held.cells());
+        let rest: Vec<Chain> = Chains::onward(SIX_PERSONS, again, 1)
+            .map(Result::unwrap)
+            .collect();
+        assert_eq!(rest, right[place + 1..]);
+    }
 }
 
 #[test]

@@ -20,7 +20,7 @@ fn lines() -> Vec<(u32, &'static str)> {
 #[test]
 fn every_meaning_is_the_document_s() {
     let lines = lines();
-    assert_eq!(lines.len(), 19);
+    assert_eq!(lines.len(), 20);
     for (number, (told, meaning)) in (1..).zip(lines) {
         let refused = Refused { number, place: 7 };
         assert_eq!(told, number);
@@ -34,7 +34,7 @@ fn every_meaning_is_the_document_s() {
 
 #[test]
 fn a_number_without_a_line_has_no_meaning() {
-    for number in [0, 20, u32::MAX] {
+    for number in [0, 21, u32::MAX] {
         let refused = Refused { number, place: 0 };
         assert_eq!(refused.meaning(), None);
         assert_eq!(refused.to_string(), format!("refused {number} at 0"));

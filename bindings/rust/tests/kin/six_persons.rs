@@ -2,8 +2,8 @@
 
 use crate::{listed, persons_in, refused, the_question, SIX_PERSONS};
 use kin::{
-    chains, check, fewest_hops, join, portion, Classes, DateMeaning, Question, Refused, Start,
-    LAST_DAY,
+    chains, check, fewest_hops, join, portion, Classes, DateMeaning, HeldListing, Question,
+    Refused, Start, LAST_DAY,
 };
 
 const FIRST: &[u32] = &[0, 1, 3, 5];
@@ -22,7 +22,7 @@ fn all(question: Question) -> Result<Vec<Vec<u32>>, Refused> {
 #[test]
 fn listings() {
     let q = the_question();
-    let cases: [(Question, &[&[u32]]); 9] = [
+    let cases: [(Question, &[&[u32]]); 11] = [
         (q, &[FIRST, SECOND, THIRD]),
         (Question { hops: 3, ..q }, &[FIRST, THIRD]),
         (Question { hops: 2, ..q }, &[]),
@@ -62,10 +62,64 @@ fn listings() {
             &[],
         ),
         (Question { hops: 8, ..q }, &[FIRST, SECOND, THIRD]),
+        (
+            Question {
+                undated: false,
+                ..q
+            },
+            &[FIRST],
+        ),
+        (
+            Question {
+                first_day: 700_001,
+                undated: false,
+                ..q
+            },
+            &[],
+        ),
     ];
     for (question, right) in cases {
         assert_eq!(all(question).unwrap(), right, "{question:?}");
     }
+}
+
+#[test]
+fn undated_links_are_left_out_everywhere() {
+    let question = Question {
+        first_day: 700_001,
+        undated: false,
+        ..the_question()
+    };
+    let (mut working, mut output) = ([UNTOUCHED; 50], [UNTOUCHED; 30]);
+    let nothing = Ok(listed(0, true));
+    assert_eq!(
+        portion(SIX_PERSONS, question, Start::Fresh, &mut output),
+        nothing
+    );
+    assert_eq!(
+        HeldListing::new(question).move_on(SIX_PERSONS, &mut output),
+        nothing
+    );
+    assert_eq!(
+        join(SIX_PERSONS, question, &mut working, &mut output),
+        nothing
+    );
+    assert_eq!(fewest_hops(SIX_PERSONS, question, 0), Ok(None));
+    assert_eq!(fewest_hops(SIX_PERSONS, question, 2), Ok(Some(2)));
+    assert_eq!(output, [UNTOUCHED; 30]);
+}
+
+#[test]
+fn a_bookmark_over_an_undated_link_is_none_where_they_are_left_out() {
+    let question = Question {
+        undated: false,
+        ..the_question()
+    };
+    let bookmark = [3, 0, 2, 3, 5, 0, 0, 0, 0, 0];
+    let mut output = [UNTOUCHED; 20];
+    let answer = portion(SIX_PERSONS, question, Start::After(&bookmark), &mut output);
+    assert_eq!(answer, Err(refused(17, 0)));
+    assert_eq!(output, [UNTOUCHED; 20]);
 }
 
 #[test]
