@@ -5,3 +5,4 @@ pub mod Heard
 pub mod Looking
 pub mod Putting
 pub mod Cut
+pub mod Undated

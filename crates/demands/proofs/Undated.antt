@@ -1,17 +1,11 @@
 -- The eighth number of a question, in what is answered: with 1 refusals and graph are those of before, and so is all that is made of them; with 0 every
 -- hop has a dated link.
-use mathlib.Core.Path.{_≡_, subst, sym, _∙_}
+use mathlib.Core.Path.{_≡_, _∙_}
 use mathlib.Core.List.{List, [], _∷_}
 use Prim.Native.Nat.{ℕ}
-use Rattle.refusals.specs.Faults.{Fault, sound}
-use Rattle.refusals.specs.declared.Answer.{Answer}
-use Rattle.ways.specs.Graph.{Graph, _∈_}
 use Rattle.question.specs.declared.Question.{Question}
-use Rattle.question.specs.Asked.{askedFault}
 use Rattle.question.proofs.Undated.{as-before, admitted-dated}
 use Rattle.distance.specs.Answers.{answered}
-use Rattle.portion.specs.Listing.{listingFor}
-use Rattle.held.specs.declared.Held.{Held}
 use Rattle.demands.specs.Paths.{Reached}
 use Rattle.demands.specs.Undated.{AnswersAsBefore, DatedHops, UndatedAsSaid}
 use Rattle.demands.proofs.Paths.{demand-two}

@@ -11,7 +11,6 @@ use Rattle.refusals.specs.Faults.{Fault, sound, firstOf, lent}
 use Rattle.refusals.specs.Answers.{roomFault}
 use Rattle.refusals.specs.declared.Answer.{Answer}
 use Rattle.ways.specs.Graph.{_∈_}
-use Rattle.ways.specs.Listing.{listing}
 use Rattle.ways.specs.ByHops.{byHops}
 use Rattle.ways.specs.Halves.{halves}
 use Rattle.ways.specs.Fewest as ways
@@ -24,16 +23,13 @@ use Rattle.distance.specs.Answers.{hopsSaid, unlessRefused, FewestHops}
 use Rattle.distance.specs.declared.HopsAnswer.{HopsAnswer}
 use Rattle.listing.specs.Portions.{Start, refusalOf, portionOf}
 use Rattle.listing.specs.Answers.{PortionOf}
-use Rattle.portion.specs.Listing.{listingFor, Portioned}
+use Rattle.portion.specs.Listing.{listingFor, listingBefore, Portioned}
 use Rattle.held.specs.declared.Held.{Held}
 use Rattle.held.specs.Holding.{startOf, heldAfter, MovedOn}
 use Rattle.join.specs.Lists.{halvesFault}
 use Rattle.join.specs.Answers.{JoinOf, Joins}
 
--- the lists of the first document, by its own admission
-abbrev pub listingBefore : List ℕ → Question → List (List ℕ)
-listingBefore file q = listing (nextBefore file q) (q .from) (q .to) (q .hops)
-
+-- the half chains and the chains of the join before there was such a number, and its refusals
 abbrev pub halvesBefore : List ℕ → Question → List (List ℕ)
 halvesBefore file q = halves (nextBefore file q) (personCount file) (q .from) (q .to) (q .hops)
 
@@ -43,7 +39,7 @@ chainsBefore file q = byHops (nextBefore file q) (q .from) (q .to) (q .hops)
 abbrev pub joinFaultBefore : List ℕ → Question → List ℕ → List ℕ → Fault
 joinFaultBefore file q working out = firstOf (askedBefore file q) (roomFault (length out) (halvesFault recordSize (length working) (halvesBefore file q)))
 
--- every answer, and every lent cell, is what the first document's refusals and lists give
+-- every answer, and every lent cell, is what the refusals and the lists of before give
 pub record AnswersAsBefore (file : List ℕ) (q : Question) : Type 0 where
   pub fewest : (person : ℕ) (answer : HopsAnswer) → FewestHops file q person answer
       → hopsSaid answer ≡ unlessRefused (askedOfBefore file q person) (ways.fewest (nextBefore file q) (q .to) (q .hops) person)

@@ -8,10 +8,10 @@ use native.Mathlib.Omega.{arith}
 use lib.ListN.{length, getD, set, take, drop, length-set, length-drop, length-append, drop-of-length-le, List·getD-append}
 use lib.Dec.{eqb}
 use lib.Seq.{paste, split-at, take-at, drop-at, getD-at, getD-take, getD-drop, getD-append-add, take-append-add, drop-append-add, drop-drop, length-take-le, take-all, take-suc-set}
-use borrow.Author.Tests.{eqb-true, eqb-false, eq-eqb, ne-eqb}
+use borrow.Author.Tests.{eqb-true}
 use Rattle.ways.specs.Sizes.{recordSize}
 use Rattle.held.specs.declared.Held.{Held}
-use Rattle.outside.specs.HeldCells.{questionNumbers, storedNumbers, behindSize, heldSize, storedSize, heldWhole, numbersIn, undatedIn, askingIn, heldOf, heldCells, asToday}
+use Rattle.outside.specs.HeldCells.{questionNumbers, storedNumbers, heldSize, storedSize, heldWhole, numbersIn, undatedIn, askingIn, heldOf, heldCells, asToday}
 
 -- either form has the cells of the stored one at least, and those of today's at most
 pub whole-sizes : (size : ℕ) → heldWhole size ≡ true → (storedSize ≤ size) × (size ≤ heldSize)

@@ -8,6 +8,7 @@ use Rattle.ways.specs.Listing.{listing}
 use Rattle.question.specs.declared.Question.{Question}
 use Rattle.question.specs.Asked.{askedFault, askedNumbers}
 use Rattle.question.specs.Admission.{next}
+use Rattle.question.specs.Before.{nextBefore}
 use Rattle.listing.specs.Portions.{Start, refusalOf, portionNumbersAfter, portionOf, endedOf}
 use Rattle.listing.specs.Answers.{PortionOf}
 use Rattle.listing.specs.EndToEnd as any
@@ -15,6 +16,10 @@ use Rattle.listing.specs.EndToEnd as any
 -- the listing of a file and a question: every chain over the admitted links
 abbrev pub listingFor : List ℕ → Question → List (List ℕ)
 listingFor file q = listing (next file q) (q .from) (q .to) (q .hops)
+
+-- the same before the question had its eighth number
+abbrev pub listingBefore : List ℕ → Question → List (List ℕ)
+listingBefore file q = listing (nextBefore file q) (q .from) (q .to) (q .hops)
 
 -- the first refusal of a portion: 1 to 9, 10 to 15, 20, 16 (output under ten cells), 17
 abbrev pub portionFault : List ℕ → Question → Start → List ℕ → Fault

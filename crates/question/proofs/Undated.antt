@@ -1,5 +1,5 @@
 -- What the eighth number does: with 1 a question is refused, and links are admitted, as before it came; with 0 an admitted link has a day.
-use mathlib.Core.Path.{_≡_, refl, sym, ap, fun-ext, _∙_}
+use mathlib.Core.Path.{_≡_, refl, ap, fun-ext}
 use mathlib.Core.Logic.{_≢_}
 use mathlib.Core.Bool.{Bool, true, false, _&&_, _||_, cond, false≢true}
 use mathlib.Core.List.{List}
@@ -12,7 +12,7 @@ use Rattle.format.proofs.Counted.{halves}
 use Rattle.question.specs.declared.Question.{Question}
 use Rattle.question.specs.Asked.{restFault, questionFault, personFault}
 use Rattle.question.specs.Admission.{inSum, dayFits, dayAdmitted, admitted, leads, next}
-use Rattle.question.specs.Before.{dayAdmittedBefore, admittedBefore, restFaultBefore, AsBefore}
+use Rattle.question.specs.Before.{admittedBefore, restFaultBefore, AsBefore}
 
 module _ (file : List ℕ) (q : Question) where
   module _ (wants : q .undated ≡ 1) where
