@@ -1,5 +1,6 @@
--- Laws of this room: the walks by hand of the function over `&mut`, calls one after another, and one result only.
+-- Laws of this room: what the walks by hand lend and get back (Lies, Lends), what an answer tells, calls one after another, and one result only.
 pub mod OneResult
 pub mod Lies
+pub mod Lends
 pub mod Telling
 pub mod Onward
