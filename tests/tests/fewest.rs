@@ -11,7 +11,8 @@ use independent::files::{self, feed, link, LinkFile};
 use independent::lister::{self, Question};
 use independent::outside;
 use independent::questions::{
-    first_to_last, numbers_of, question_faults, question_of, random_question, QuestionFault, Q,
+    first_to_last, numbers_of, question_faults, question_of, random_question, QuestionFault,
+    EXTRA_PERSON, Q,
 };
 use independent::random::Random;
 
@@ -204,7 +205,7 @@ fn ask_with(file: &[u8], faults: &[&QuestionFault]) -> Result<u64, Refusal> {
     for fault in faults {
         numbers[fault.number_of_question] = fault.value;
     }
-    agree(file, &question_of(&numbers), numbers[7])
+    agree(file, &question_of(&numbers), numbers[EXTRA_PERSON])
 }
 
 #[test]
@@ -225,7 +226,7 @@ fn each_refusal_of_a_question_alone_and_in_pairs() {
 #[test]
 fn limits_that_pass() {
     let file = files::six_persons().bytes();
-    let limits: [(usize, &[u32]); 8] = [
+    let limits: [(usize, &[u32]); 9] = [
         (0, &[0, 1, 4]),
         (1, &[1, 5]),
         (2, &[1, 2, 7, 8]),
@@ -233,13 +234,14 @@ fn limits_that_pass() {
         (4, &[1, 2]),
         (5, &[1, 2, LAST_DAY]),
         (6, &[1, 2, LAST_DAY - 1, LAST_DAY]),
-        (7, &[0, 5]),
+        (7, &[0, 1]),
+        (EXTRA_PERSON, &[0, 5]),
     ];
     for (number, values) in limits {
         for &value in values {
             let mut numbers = numbers_of(&Q, 2);
             numbers[number] = value;
-            assert!(agree(&file, &question_of(&numbers), numbers[7]).is_ok());
+            assert!(agree(&file, &question_of(&numbers), numbers[EXTRA_PERSON]).is_ok());
         }
     }
 }

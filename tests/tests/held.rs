@@ -368,8 +368,8 @@ fn the_question_changed_between_calls() {
         let mut other = random_question(&mut random, n as usize);
         (other.from, other.to) = (desk.question.from, desk.question.to);
         let changed = Asked::new(desk.file.clone(), other);
-        let record = held[8..].try_into().expect("ten cells");
-        let mut held = changed.held(held[7], record);
+        let record = held[9..].try_into().expect("ten cells");
+        let mut held = changed.held(held[8], record);
         let _ = changed.moved(&mut held, 30);
     }
 }

@@ -10,9 +10,7 @@ use independent::files;
 use independent::lent::{untouched, VastTail};
 use independent::lister::{record, Question};
 use independent::outside;
-use independent::questions::{
-    numbers_of, q_after, question_faults, question_of, A, B, C, Q, Q_HELD,
-};
+use independent::questions::{faulty_questions, q_after, A, B, C, Q, Q_HELD};
 
 // Output.
 
@@ -114,22 +112,11 @@ fn every_refusal_of_the_file() {
 
 #[test]
 fn every_refusal_of_the_question() {
-    let mut faults = question_faults(6, Q.from);
-    faults.retain(|fault| fault.number_of_question != 7);
-    for one in &faults {
-        for other in &faults {
-            let together = one.number_of_question != other.number_of_question;
-            if together && one.rank() <= other.rank() {
-                let mut numbers = numbers_of(&Q, 0);
-                numbers[other.number_of_question] = other.value;
-                numbers[one.number_of_question] = one.value;
-                let desk = Asked::six_persons(question_of(&numbers));
-                let Refusal { number, place } = one.refusal;
-                desk.refuses_to_move(desk.fresh(), 30, number, place);
-                desk.refuses_to_move(desk.held(1, &record(A)), 30, number, place);
-                desk.refuses_to_move(desk.held(u32::MAX, &[7; 10]), 9, number, place);
-            }
-        }
+    for (question, Refusal { number, place }) in faulty_questions() {
+        let desk = Asked::six_persons(question);
+        desk.refuses_to_move(desk.fresh(), 30, number, place);
+        desk.refuses_to_move(desk.held(1, &record(A)), 30, number, place);
+        desk.refuses_to_move(desk.held(u32::MAX, &[7; 10]), 9, number, place);
     }
 }
 

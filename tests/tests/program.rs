@@ -18,7 +18,7 @@ use std::path::PathBuf;
 use std::process::{Child, Command, Stdio};
 
 /// What a question's bytes are, and the most bytes of a file that the program takes.
-const QUESTION: usize = 28;
+const QUESTION: usize = 32;
 const MOST_FILE: usize = 53_349;
 
 fn started() -> Child {
@@ -55,7 +55,7 @@ fn printed_in_pieces(input: &[u8], piece: usize) -> Vec<u8> {
 
 fn input_of(file: &[u8], question: &Question) -> Vec<u8> {
     let mut input = Vec::new();
-    for number in &numbers_of(question, 0)[..7] {
+    for number in question.numbers() {
         input.extend_from_slice(&number.to_le_bytes());
     }
     input.extend_from_slice(file);
@@ -67,7 +67,7 @@ fn asked_of(input: &[u8]) -> Question {
     for (number, bytes) in numbers.iter_mut().zip(input[..QUESTION].chunks(4)) {
         *number = u32::from_le_bytes(bytes.try_into().expect("four bytes"));
     }
-    question_of(&numbers)
+    Question::of_numbers(&numbers)
 }
 
 /// What the document says is printed.
