@@ -177,10 +177,25 @@ impl Asked {
 
     /// Moves the question on in each form that can hold it: one stored before admits undated links.
     pub fn moved_in_each_form(&self, started: u32, record: &[u32; 10], cells: usize) {
-        let _ = self.moved(&mut self.held(started, record), cells);
+        let mut held = self.held(started, record);
         if self.question.undated == 1 {
-            let _ = self.moved(&mut self.stored(started, record), cells);
+            let mut stored = self.stored(started, record);
+            let _ = self.moved_side_by_side(&mut held, &mut stored, cells);
+        } else {
+            let _ = self.moved(&mut held, cells);
         }
+    }
+
+    /// Moves on a held listing and the same one stored before: both are told the same, and all cells they share are the
+    /// same afterwards.
+    pub fn moved_side_by_side(&self, held: &mut Held, stored: &mut Stored, cells: usize) -> Answer {
+        let told = self.moved(held, cells);
+        assert_eq!(self.moved(stored, cells), told, "{held:?} {stored:?}");
+        assert_eq!(
+            (&held[..7], held[7], &held[8..]),
+            (&stored[..7], 1, &stored[7..])
+        );
+        told.0
     }
 
     /// Moves a held listing of the question on; gives answer and output, which are the lister's, as its cells are.

@@ -86,7 +86,7 @@ fn slices_of_no_elements_at_both_edges() {
             for started in [0, 1] {
                 let _ = asked.portion(started, &[], 0);
                 let _ = asked.portion(started, &[], 30);
-                let _ = asked.moved(&mut asked.held(started, &[1; 10]), 0);
+                asked.moved_in_each_form(started, &[1; 10], 0);
             }
             let _ = asked.join(0, 0);
             let _ = asked.join(0, 30);

@@ -267,7 +267,7 @@ fn from_and_to_anywhere() {
         let parts = random.between(2, 5);
         let file = random_graph(&mut random, persons, parts).bytes();
         let mut question = random_question(&mut random, persons);
-        question.classes = 15;
+        (question.classes, question.undated) = (15, 1);
         Asked::new(file, question).joined_around_the_bounds();
     }
 }
