@@ -3,7 +3,7 @@
 
 use crate::checker::{Refusal, LAST_DAY};
 use crate::files::random_day;
-use crate::lister::{record, Held, Question};
+use crate::lister::{record, Held, Question, Stored};
 use crate::random::Random;
 
 /// Q of the six-person file.
@@ -34,6 +34,19 @@ pub fn q_after(chain: &[u32]) -> Held {
     held[8] = 1;
     held[9..].copy_from_slice(&record(chain));
     held
+}
+
+/// Q as it was held before it had its eighth number, written out cell by cell.
+pub const Q_STORED: Stored = [
+    0, 5, 4, 15, 1, 1, 3_652_059, 0, 7, 7, 7, 7, 7, 7, 7, 7, 7, 7,
+];
+
+/// The same after one of its chains.
+pub fn q_stored_after(chain: &[u32]) -> Stored {
+    let mut stored = Q_STORED;
+    stored[7] = 1;
+    stored[8..].copy_from_slice(&record(chain));
+    stored
 }
 
 /// From the first person to the last one, all links admitted that are undated.
