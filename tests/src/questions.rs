@@ -79,7 +79,7 @@ pub fn random_question(random: &mut Random, n: usize) -> Question {
         meaning: random.between(1, 2) as u32,
         first_day,
         last_day,
-        undated: random.below(2) as u32,
+        undated: random.one_of(&[0, 1, 1]),
     }
 }
 

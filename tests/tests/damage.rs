@@ -84,8 +84,8 @@ fn a_hundred_thousand_damaged_files() {
 fn damaged_files_of_up_to_forty_persons() {
     let mut random = Random::of_test("damaged_files_of_up_to_forty_persons");
     let mut tally = Tally::default();
-    // Half of the questions leave undated links out, and there are no others before the damage.
-    for _ in 0..rounds(4_000, 80_000) {
+    // A third of the questions leave undated links out, and there are no others before the damage.
+    for _ in 0..rounds(3_000, 60_000) {
         // Few links a person, so that brute force gets through what still passes.
         let persons = random.between(8, 40);
         let shape = files::two_way_family(&mut random, persons);

@@ -230,7 +230,7 @@ fn the_full_graph_of_four_persons_with_links_undated_and_dated() {
 #[test]
 fn a_sample_of_four_persons_with_links_undated_and_dated() {
     let mut random = Random::of_test("a_sample_of_four_persons_with_links_undated_and_dated");
-    for _ in 0..rounds(40, 2_000) {
+    for _ in 0..rounds(400, 8_000) {
         let all = 1 << links_of_graph(4);
         let [graph, dates] = [(); 2].map(|()| random.below(all) as u32);
         let file = dated_graph(4, graph, dates).bytes();
