@@ -99,7 +99,7 @@ fn every_question_over_the_six_person_file() {
 fn whole_listings_at_rooms_1_2_3_and_40() {
     let mut random = Random::of_test("whole_listings_at_rooms_1_2_3_and_40");
     let (mut with_chains, mut longest) = (0, 0);
-    for _ in 0..10_000 {
+    for _ in 0..12_000 {
         let desk = Asked::random(&mut random, 7);
         let count = desk.chains().len();
         with_chains += usize::from(count > 1);
