@@ -1,7 +1,7 @@
 //! The portion, through `kin_portion`, against the brute-force lister: answer and every output cell.
 //!
 //! Covers: every case stated for the six-person file but the half chains; small graphs on which wrong pruning loses
-//! chains, fresh and resumed at every chain; a large dead region; outputs of every length; the order of refusals 1 to 17.
+//! chains, fresh and resumed at every chain; a large dead region; outputs of every length; the order of refusals 1 to 17, 20.
 //! Long and random listings are in `listings.rs`, bookmarks in `bookmarks.rs`. File and bookmark have to stay as they
 //! came in every call, and the output's cells are compared whole.
 
