@@ -24,10 +24,10 @@ def refusal(number):
 
 
 def broken_off(length):
-    """What is answered to an input that ends behind so many of its bytes: the question has 28, the file's header 32."""
+    """What is answered to an input that ends behind so many of its bytes: the question has 32, and so has the file's header."""
     if length == len(INPUT):
         return WHOLE
-    return refusal(19 if length < 28 else 1 if length < 28 + 32 else 3)
+    return refusal(19 if length < 32 else 1 if length < 32 + 32 else 3)
 
 
 def asked(stdin, **how):
@@ -91,7 +91,7 @@ class Reading(unittest.TestCase):
             self.assertRaises(ConnectionResetError, near.recv, 100)
 
     def test_a_pipe_that_does_not_wait(self):
-        for length in (0, 27, 28, 59, 60, len(INPUT) - 1, len(INPUT)):
+        for length in (0, 31, 32, 63, 64, len(INPUT) - 1, len(INPUT)):
             with pipe() as (out, into):
                 os.set_blocking(out.fileno(), False)
                 into.write(INPUT[:length])

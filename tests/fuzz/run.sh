@@ -35,7 +35,7 @@ objdump -d --no-show-raw-insn "$made/fuzz" | python3 "$here/blocks.py" "$made/fu
 (cd "$root/tests" && cargo run --release --offline --quiet --example seeds -- "$made/corpus")
 
 echo "fuzzing for $seconds seconds over $(wc -l <"$made/blocks") blocks of the library's machine code"
-KIN_BLOCKS="$made/blocks" "$made/fuzz" -max_total_time="$seconds" -max_len=5008 -timeout=20 -rss_limit_mb=2048 \
+KIN_BLOCKS="$made/blocks" "$made/fuzz" -max_total_time="$seconds" -max_len=5012 -timeout=20 -rss_limit_mb=2048 \
   -seed="${KIN_SEED:-20011}" -print_final_stats=1 -artifact_prefix="$made/found/" "$made/corpus" 2>&1 |
   tee "$made/log" | grep -v '^#[0-9]*.*\(REDUCE\|NEW\)\|^not met' || true
 if [ -n "$(ls -A "$made/found")" ]; then

@@ -5,8 +5,8 @@ use crate::checker::{self, refused, Refusal};
 use crate::files;
 use crate::lent::{untouched, Lent};
 use crate::lister::{
-    self, half_chains, held_of, listed, listing, listing_by_hops, moved_on, record, Chain, Held,
-    Listed, Question,
+    self, half_chains, held_of, listed, listing, listing_by_hops, moved_on, question_held, record,
+    stored_of, Chain, Held, Listed, Question, Stored,
 };
 use crate::outside::{Library, USUAL};
 use crate::questions::random_question;
@@ -160,15 +160,47 @@ impl Asked {
         held_of(&self.question, started, record)
     }
 
+    /// The question, held as it was before it could leave undated links out.
+    pub fn stored(&self, started: u32, record: &[u32; 10]) -> Stored {
+        stored_of(&self.question, started, record)
+    }
+
     /// The question held and not yet started, with garbage in its record.
     pub fn fresh(&self) -> Held {
-        let garbage = untouched(10).try_into().expect("ten cells");
-        self.held(0, &garbage)
+        self.held(0, &garbage())
+    }
+
+    /// The same, stored before.
+    pub fn fresh_stored(&self) -> Stored {
+        self.stored(0, &garbage())
+    }
+
+    /// Moves the question on in each form that can hold it: one stored before admits undated links.
+    pub fn moved_in_each_form(&self, started: u32, record: &[u32; 10], cells: usize) {
+        let mut held = self.held(started, record);
+        if self.question.undated == 1 {
+            let mut stored = self.stored(started, record);
+            let _ = self.moved_side_by_side(&mut held, &mut stored, cells);
+        } else {
+            let _ = self.moved(&mut held, cells);
+        }
+    }
+
+    /// Moves on a held listing and the same one stored before: both are told the same, and all cells they share are the
+    /// same afterwards.
+    pub fn moved_side_by_side(&self, held: &mut Held, stored: &mut Stored, cells: usize) -> Answer {
+        let told = self.moved(held, cells);
+        assert_eq!(self.moved(stored, cells), told, "{held:?} {stored:?}");
+        assert_eq!(
+            (&held[..7], held[7], &held[8..]),
+            (&stored[..7], 1, &stored[7..])
+        );
+        told.0
     }
 
     /// Moves a held listing of the question on; gives answer and output, which are the lister's, as its cells are.
-    pub fn moved(&self, held: &mut Held, cells: usize) -> (Answer, Vec<u32>) {
-        let came = *held;
+    pub fn moved(&self, held: &mut [u32], cells: usize) -> (Answer, Vec<u32>) {
+        let came = held.to_vec();
         let mut out = untouched(cells);
         let told = self.library.held(held, &self.file, &mut out);
         self.moved_as_it_has_to_be(&came, held, told, &out);
@@ -177,19 +209,20 @@ impl Asked {
 
     /// The same, in the memory where the held listing lies.
     pub fn moved_in_place(&self, lent: &mut Lent<u32>, cells: usize) -> (Answer, Vec<u32>) {
-        let came = held_cells(lent.contents());
+        let came = lent.contents().to_vec();
         let mut out = untouched(cells);
         let told = self.library.held_in_place(lent, &self.file, &mut out);
-        self.moved_as_it_has_to_be(&came, &held_cells(lent.contents()), told, &out);
+        self.moved_as_it_has_to_be(&came, lent.contents(), told, &out);
         (told, out)
     }
 
-    fn moved_as_it_has_to_be(&self, came: &Held, held: &Held, told: Answer, out: &[u32]) {
-        let mut right_held = *came;
+    fn moved_as_it_has_to_be(&self, came: &[u32], held: &[u32], told: Answer, out: &[u32]) {
+        assert_eq!(question_held(came), self.question, "another's listing");
+        let mut right_held = came.to_vec();
         let mut right_out = untouched(out.len());
         let right = moved_on(self.listing(), &mut right_held, &mut right_out);
         assert!(
-            told == right && *held == right_held && out == right_out,
+            told == right && held == right_held && out == right_out,
             "held {came:?}, {} cells, of {:?}:\ntold {told:?} {held:?} {out:?}\nright {right:?} {right_held:?} {right_out:?}",
             out.len(),
             self.file
@@ -221,7 +254,13 @@ impl Asked {
     // Refusals.
 
     /// A call to move on that is refused, and leaves all cells as they came.
-    pub fn refuses_to_move(&self, held: Held, cells: usize, number: u32, place: u32) {
+    pub fn refuses_to_move<const FORM: usize>(
+        &self,
+        held: [u32; FORM],
+        cells: usize,
+        number: u32,
+        place: u32,
+    ) {
         let mut asked = held;
         let (answer, out) = self.moved(&mut asked, cells);
         assert_eq!((answer, out), (refused(number, place), untouched(cells)));
@@ -256,13 +295,17 @@ impl Asked {
     }
 
     /// Moves through the whole listing with these rooms, then goes on past the end.
-    pub fn moved_through(&self, held: Held, rooms: &[usize]) {
+    pub fn moved_through<const FORM: usize>(&self, held: [u32; FORM], rooms: &[usize]) {
         self.stays_at_its_end(self.moved_to_the_end(held, rooms));
     }
 
     /// Moves through the whole listing with these rooms, then with room 1 again and again, each call from a copy of
     /// what the call before it left; gives the held listing at its end.
-    pub fn moved_to_the_end(&self, held: Held, rooms: &[usize]) -> Held {
+    pub fn moved_to_the_end<const FORM: usize>(
+        &self,
+        held: [u32; FORM],
+        rooms: &[usize],
+    ) -> [u32; FORM] {
         let mut held = held;
         let mut rooms = rooms.iter().copied().chain(std::iter::repeat(1));
         let mut handed_over = vec![];
@@ -282,7 +325,7 @@ impl Asked {
     }
 
     /// A held listing at its end answers 0 chains, ended, and does not change, however often it is asked.
-    pub fn stays_at_its_end(&self, held: Held) {
+    pub fn stays_at_its_end<const FORM: usize>(&self, held: [u32; FORM]) {
         let mut asked = held;
         for cells in [10, 29, 30, 400, 10] {
             let (answer, out) = self.moved(&mut asked, cells);
@@ -297,9 +340,9 @@ pub fn as_they_came(number: u32, place: u32, working: usize, cells: usize) -> Jo
     (refused(number, place), untouched(working), untouched(cells))
 }
 
-/// The 18 cells of a held listing.
-pub fn held_cells(cells: &[u32]) -> Held {
-    cells.try_into().expect("18 cells")
+/// What stands in a record that nobody looks at.
+fn garbage() -> [u32; 10] {
+    untouched(10).try_into().expect("ten cells")
 }
 
 /// The records of the chains, one behind the other.

@@ -18,12 +18,12 @@ extern "C" {
     fn kin_row(file: *const u8, file_length: usize, person: u32) -> u64;
     fn kin_fewest(
         file: *const u8, file_length: usize,
-        from: u32, to: u32, hops: u32, classes: u32, meaning: u32, first_day: u32, last_day: u32,
+        from: u32, to: u32, hops: u32, classes: u32, meaning: u32, first_day: u32, last_day: u32, undated: u32,
         person: u32,
     ) -> u64;
     fn kin_portion(
         file: *const u8, file_length: usize,
-        from: u32, to: u32, hops: u32, classes: u32, meaning: u32, first_day: u32, last_day: u32,
+        from: u32, to: u32, hops: u32, classes: u32, meaning: u32, first_day: u32, last_day: u32, undated: u32,
         started: u32, bookmark: *const u32, bookmark_length: usize,
         out: *mut u32, out_length: usize,
     ) -> u64;
@@ -34,7 +34,7 @@ extern "C" {
     ) -> u64;
     fn kin_join(
         file: *const u8, file_length: usize,
-        from: u32, to: u32, hops: u32, classes: u32, meaning: u32, first_day: u32, last_day: u32,
+        from: u32, to: u32, hops: u32, classes: u32, meaning: u32, first_day: u32, last_day: u32, undated: u32,
         working: *mut u32, working_length: usize,
         out: *mut u32, out_length: usize,
     ) -> u64;
@@ -54,7 +54,7 @@ pub fn fewest(file: Slice<u8>, q: &Question, person: u32) -> Result<u64, Refusal
     not_refused(unsafe {
         kin_fewest(
             file.0, file.1,
-            q.from, q.to, q.hops, q.classes, q.meaning, q.first_day, q.last_day,
+            q.from, q.to, q.hops, q.classes, q.meaning, q.first_day, q.last_day, q.undated,
             person,
         )
     })
@@ -67,14 +67,14 @@ pub fn portion(
     listed_or_refused(unsafe {
         kin_portion(
             file.0, file.1,
-            q.from, q.to, q.hops, q.classes, q.meaning, q.first_day, q.last_day,
+            q.from, q.to, q.hops, q.classes, q.meaning, q.first_day, q.last_day, q.undated,
             started, bookmark.0, bookmark.1,
             out.0, out.1,
         )
     })
 }
 
-/// Where the held listing's cells are other than 18 the answer is exactly 2^63: a refusal of number 0 at place 0.
+/// Where the held listing's cells are neither 18 nor 19 the answer is exactly 2^63: a refusal of number 0 at place 0.
 pub fn held(held: Slice<u32>, file: Slice<u8>, out: Slice<u32>) -> Result<Listed, Refusal> {
     listed_or_refused(unsafe { kin_held(held.0, held.1, file.0, file.1, out.0, out.1) })
 }
@@ -86,7 +86,7 @@ pub fn join(
     listed_or_refused(unsafe {
         kin_join(
             file.0, file.1,
-            q.from, q.to, q.hops, q.classes, q.meaning, q.first_day, q.last_day,
+            q.from, q.to, q.hops, q.classes, q.meaning, q.first_day, q.last_day, q.undated,
             working.0, working.1,
             out.0, out.1,
         )

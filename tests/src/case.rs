@@ -7,14 +7,14 @@ use crate::files::{self, LinkFile};
 use crate::lent::Memory;
 use crate::lister::{record, Question};
 use crate::outside::Library;
-use crate::questions::{first_to_last, numbers_of, question_of, random_question};
+use crate::questions::{first_to_last, random_question};
 use crate::random::Random;
 
 /// What stands before the file: one byte that says how, the question as the program `chains` reads it, one byte each for
 /// the person, the started mark, output and working cells, the bookmark's length, and ten for its cells.
 pub const HEAD: usize = HOW + QUESTION + ROOMS + BOOKMARK;
 const HOW: usize = 1;
-const QUESTION: usize = 28;
+const QUESTION: usize = 32;
 const ROOMS: usize = 5;
 const BOOKMARK: usize = 10;
 
@@ -54,7 +54,7 @@ pub fn ask_in(input: &[u8], memory: Memory) {
     for (number, bytes) in numbers.iter_mut().zip(question.chunks(4)) {
         *number = u32::from_le_bytes(bytes.try_into().expect("four bytes"));
     }
-    let asked = Asked::new(file, question_of(&numbers)).of(Library { memory });
+    let asked = Asked::new(file, Question::of_numbers(&numbers)).of(Library { memory });
     let mut bookmark = bookmark_of(bookmark);
     if how & AT_A_CHAIN != 0 {
         put_chain(&asked, rooms[4], &mut bookmark);
@@ -96,7 +96,7 @@ fn ask_all(asked: &Asked, rooms: &[u8], bookmark: &[u32; 10]) {
     }
     let _ = asked.fewest(person);
     let _ = asked.portion(started, &bookmark[..usize::from(length)], cells);
-    let _ = asked.moved(&mut asked.held(started, bookmark), cells);
+    asked.moved_in_each_form(started, bookmark, cells);
     let _ = asked.join(working, cells);
 }
 
@@ -135,7 +135,7 @@ pub fn random_wide_case(random: &mut Random) -> Vec<u8> {
 
 fn case_over(random: &mut Random, shape: &LinkFile, question: &Question) -> Vec<u8> {
     let mut input = vec![random.below(16) as u8];
-    for number in &numbers_of(question, 0)[..7] {
+    for number in question.numbers() {
         input.extend(number.to_le_bytes());
     }
     let person = random.below(shape.persons() + 1) as u8;

@@ -107,6 +107,22 @@ impl LinkFile {
         bytes
     }
 
+    /// The same links, each with the day that its number through the file gets: 0 for undated.
+    pub fn dated(mut self, mut day: impl FnMut(usize) -> u32) -> LinkFile {
+        for (number, link) in self.rows.iter_mut().flatten().enumerate() {
+            link.day = day(number);
+        }
+        self
+    }
+
+    /// The same persons with those links only that are wanted.
+    pub fn keeping(mut self, wanted: impl Fn(&Link) -> bool) -> LinkFile {
+        for row in &mut self.rows {
+            row.retain(&wanted);
+        }
+        self
+    }
+
     fn write_header(&self, bytes: &mut Vec<u8>) {
         bytes.extend(b"KLF1");
         let numbers = [

@@ -13,6 +13,38 @@ pub struct Question {
     pub meaning: u32,
     pub first_day: u32,
     pub last_day: u32,
+    /// 1 admits undated links, 0 leaves them out.
+    pub undated: u32,
+}
+
+impl Question {
+    /// The eight numbers in their order.
+    pub fn numbers(&self) -> [u32; 8] {
+        [
+            self.from,
+            self.to,
+            self.hops,
+            self.classes,
+            self.meaning,
+            self.first_day,
+            self.last_day,
+            self.undated,
+        ]
+    }
+
+    pub fn of_numbers(numbers: &[u32; 8]) -> Question {
+        let [from, to, hops, classes, meaning, first_day, last_day, undated] = *numbers;
+        Question {
+            from,
+            to,
+            hops,
+            classes,
+            meaning,
+            first_day,
+            last_day,
+            undated,
+        }
+    }
 }
 
 /// A chain as its persons, first From, last To.
@@ -21,7 +53,7 @@ pub type Chain = Vec<u32>;
 /// For each person the persons reached by an admitted link, in the order of the row.
 pub type Hops = Vec<Vec<u32>>;
 
-/// Every chain in dictionary order, or the refusal of the file (1 to 9) or of the question (10 to 15).
+/// Every chain in dictionary order, or the refusal of the file (1 to 9) or of the question (10 to 15, 20).
 pub fn listing(file: &[u8], question: &Question) -> Result<Vec<Chain>, Refusal> {
     let counts = checker::verdict(file)?;
     ends_below_n(question, counts.n)?;
@@ -102,37 +134,54 @@ pub fn portion(
     })
 }
 
-/// The cells of a held listing: the seven numbers of the question, the started mark, the last record.
-pub type Held = [u32; 18];
+/// The cells of a held listing: the eight numbers of the question, the started mark, the last record.
+pub type Held = [u32; 19];
+
+/// The cells of one stored before the question had its eighth number: the seven, the started mark, the last record.
+pub type Stored = [u32; 18];
 
 pub fn held_of(question: &Question, started: u32, record: &[u32; 10]) -> Held {
-    let mut held = [0; 18];
-    held[..7].copy_from_slice(&[
-        question.from,
-        question.to,
-        question.hops,
-        question.classes,
-        question.meaning,
-        question.first_day,
-        question.last_day,
-    ]);
-    held[7] = started;
-    held[8..].copy_from_slice(record);
+    let mut held = [0; 19];
+    held[..8].copy_from_slice(&question.numbers());
+    held[8] = started;
+    held[9..].copy_from_slice(record);
     held
 }
 
+pub fn stored_of(question: &Question, started: u32, record: &[u32; 10]) -> Stored {
+    let mut stored = [0; 18];
+    stored[..7].copy_from_slice(&question.numbers()[..7]);
+    stored[7] = started;
+    stored[8..].copy_from_slice(record);
+    stored
+}
+
+/// The question that a held listing asks. One stored before admits undated links.
+pub fn question_held(held: &[u32]) -> Question {
+    let mut numbers = [1; 8];
+    let count = mark_of(held);
+    numbers[..count].copy_from_slice(&held[..count]);
+    Question::of_numbers(&numbers)
+}
+
+/// Where the started mark stands: before the ten cells of the record, in the one form as in the other.
+fn mark_of(held: &[u32]) -> usize {
+    held.len() - 11
+}
+
 /// Moves a held listing on as it has to be; `listing` is that of its question. With chains written it is started and
-/// its record is the last one written; otherwise nothing in it changes.
+/// its record is the last one written; otherwise nothing in it changes. It keeps its form.
 pub fn moved_on(
     listing: &Result<Vec<Chain>, Refusal>,
-    held: &mut Held,
+    held: &mut [u32],
     out: &mut [u32],
 ) -> Result<Listed, Refusal> {
-    let listed = portion(listing, held[7], &held[8..], out)?;
+    let mark = mark_of(held);
+    let listed = portion(listing, held[mark], &held[mark + 1..], out)?;
     if listed.count > 0 {
         let last = 10 * (listed.count as usize - 1);
-        held[7] = 1;
-        held[8..].copy_from_slice(&out[last..last + 10]);
+        held[mark] = 1;
+        held[mark + 1..].copy_from_slice(&out[last..last + 10]);
     }
     Ok(listed)
 }
@@ -274,6 +323,9 @@ fn question_refusals(question: &Question) -> Result<(), Refusal> {
     if first == 0 || last > LAST_DAY || first > last {
         return refused(15, 0);
     }
+    if question.undated > 1 {
+        return refused(20, 0);
+    }
     Ok(())
 }
 
@@ -297,7 +349,7 @@ fn admitted(file: &[u8], link: &checker::Link, question: &Question) -> bool {
         return false;
     }
     if link.day == 0 {
-        return true;
+        return question.undated == 1;
     }
     let in_window = question.first_day <= link.day && link.day <= question.last_day;
     let meaning = u32::from(checker::feed(file, link.feed).meaning);

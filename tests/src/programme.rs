@@ -8,7 +8,8 @@ impl Asked {
     pub fn everything(&self, n: u32) {
         self.fresh_with_every_room();
         self.resumed_at_every_chain();
-        self.held_to_the_end_with_every_room();
+        self.to_the_end_with_every_room(self.fresh());
+        self.stored_before_chain_by_chain();
         self.joined_with_just_enough();
         self.fewest_of_everybody(n);
     }
@@ -17,7 +18,7 @@ impl Asked {
     pub fn once_by_each_route(&self, n: u32) {
         let cells = 10 * self.chains().len() + 15;
         let _ = self.portion(0, &[], cells);
-        let _ = self.moved(&mut self.fresh(), cells);
+        self.moved_in_each_form(0, &[9; 10], cells);
         let _ = self.join(self.enough(), cells);
         self.fewest_of_everybody(n);
     }
@@ -39,14 +40,21 @@ impl Asked {
         }
     }
 
-    /// At its end it stays, whichever way it came there.
-    pub fn held_to_the_end_with_every_room(&self) {
+    /// At its end a held listing stays, whichever way it came there.
+    pub fn to_the_end_with_every_room<const FORM: usize>(&self, fresh: [u32; FORM]) {
         let count = self.chains().len();
         for room in 1..=count + 1 {
-            let end = self.moved_to_the_end(self.fresh(), &vec![room; count]);
+            let end = self.moved_to_the_end(fresh, &vec![room; count]);
             let mut again = end;
             assert_eq!(self.moved(&mut again, 10).0, listed(0, true));
             assert_eq!(again, end);
+        }
+    }
+
+    /// Only a question that admits undated links can have been stored before.
+    pub fn stored_before_chain_by_chain(&self) {
+        if self.question.undated == 1 {
+            let _ = self.moved_to_the_end(self.fresh_stored(), &[]);
         }
     }
 

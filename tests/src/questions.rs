@@ -3,7 +3,7 @@
 
 use crate::checker::{Refusal, LAST_DAY};
 use crate::files::random_day;
-use crate::lister::{record, Held, Question};
+use crate::lister::{record, Held, Question, Stored};
 use crate::random::Random;
 
 /// Q of the six-person file.
@@ -15,6 +15,7 @@ pub const Q: Question = Question {
     meaning: 1,
     first_day: 1,
     last_day: LAST_DAY,
+    undated: 1,
 };
 
 /// The chains of Q, in dictionary order.
@@ -24,15 +25,28 @@ pub const C: &[u32] = &[0, 2, 3, 5];
 
 /// Q as it is held, written out cell by cell.
 pub const Q_HELD: Held = [
-    0, 5, 4, 15, 1, 1, 3_652_059, 0, 7, 7, 7, 7, 7, 7, 7, 7, 7, 7,
+    0, 5, 4, 15, 1, 1, 3_652_059, 1, 0, 7, 7, 7, 7, 7, 7, 7, 7, 7, 7,
 ];
 
 /// Q held after one of its chains.
 pub fn q_after(chain: &[u32]) -> Held {
     let mut held = Q_HELD;
-    held[7] = 1;
-    held[8..].copy_from_slice(&record(chain));
+    held[8] = 1;
+    held[9..].copy_from_slice(&record(chain));
     held
+}
+
+/// Q as it was held before it had its eighth number, written out cell by cell.
+pub const Q_STORED: Stored = [
+    0, 5, 4, 15, 1, 1, 3_652_059, 0, 7, 7, 7, 7, 7, 7, 7, 7, 7, 7,
+];
+
+/// The same after one of its chains.
+pub fn q_stored_after(chain: &[u32]) -> Stored {
+    let mut stored = Q_STORED;
+    stored[7] = 1;
+    stored[8..].copy_from_slice(&record(chain));
+    stored
 }
 
 /// From the first person to the last one, all links admitted that are undated.
@@ -44,7 +58,8 @@ pub fn first_to_last(persons: usize, hops: u32) -> Question {
     }
 }
 
-/// A question that passes over `n` persons, n at least 2: hops 1 to 8, any classes, windows open, narrow, at the limits.
+/// A question that passes over `n` persons, n at least 2: hops 1 to 8, any classes, windows open, narrow, at the
+/// limits, undated links admitted or left out.
 pub fn random_question(random: &mut Random, n: usize) -> Question {
     let from = random.below(n) as u32;
     let mut to = random.below(n) as u32;
@@ -64,6 +79,7 @@ pub fn random_question(random: &mut Random, n: usize) -> Question {
         meaning: random.between(1, 2) as u32,
         first_day,
         last_day,
+        undated: random.one_of(&[0, 1, 1]),
     }
 }
 
@@ -76,8 +92,8 @@ fn random_window(random: &mut Random) -> (u32, u32) {
     (one.min(other), one.max(other))
 }
 
-/// A number of a question set to a wrong value. The numbers are counted from 0 in the question's order; 7 is the extra
-/// person of fewest hops.
+/// A number of a question set to a wrong value. The numbers are counted from 0 in the question's order; behind them
+/// stands the extra person of fewest hops.
 #[derive(Clone, Copy, Debug)]
 pub struct QuestionFault {
     pub number_of_question: usize,
@@ -92,33 +108,36 @@ impl QuestionFault {
     }
 }
 
-/// The seven numbers in order, and the extra person.
-pub type Numbers = [u32; 8];
+/// Where the extra person stands.
+pub const EXTRA_PERSON: usize = 8;
+
+/// The eight numbers in order, and the extra person.
+pub type Numbers = [u32; 9];
 
 pub fn question_of(numbers: &Numbers) -> Question {
-    Question {
-        from: numbers[0],
-        to: numbers[1],
-        hops: numbers[2],
-        classes: numbers[3],
-        meaning: numbers[4],
-        first_day: numbers[5],
-        last_day: numbers[6],
-    }
+    let eight = numbers[..EXTRA_PERSON].try_into().expect("eight numbers");
+    Question::of_numbers(eight)
 }
 
 pub fn numbers_of(question: &Question, person: u32) -> Numbers {
-    [
-        question.from,
-        question.to,
-        question.hops,
-        question.classes,
-        question.meaning,
-        question.first_day,
-        question.last_day,
-        person,
-    ]
+    let mut numbers = [person; 9];
+    numbers[..EXTRA_PERSON].copy_from_slice(&question.numbers());
+    numbers
 }
+
+/// Numbers that say neither that undated links are admitted nor that they are left out.
+pub const NOT_UNDATED: [u32; 10] = [
+    2,
+    3,
+    255,
+    256,
+    256 + 1,
+    65_536,
+    65_536 + 1,
+    1 << 31,
+    (1 << 31) + 1,
+    u32::MAX,
+];
 
 /// Every fault of the catalogue for a question like Q over `n` persons. Any two at different numbers stay faults
 /// together, and the one of lower rank is the verdict.
@@ -132,13 +151,14 @@ pub fn question_faults(n: u32, from: u32) -> Vec<QuestionFault> {
     let mut faults = vec![];
     note(&mut faults, 0, &above, 10, 0);
     note(&mut faults, 1, &above, 10, 1);
-    note(&mut faults, 7, &above, 10, 2);
+    note(&mut faults, EXTRA_PERSON, &above, 10, 2);
     note(&mut faults, 1, &[from], 11, 0);
     note(&mut faults, 2, &not_hops, 12, 0);
     note(&mut faults, 3, &not_classes, 13, 0);
     note(&mut faults, 4, &not_meaning, 14, 0);
     note(&mut faults, 5, &not_first, 15, 0);
     note(&mut faults, 6, &not_last, 15, 0);
+    note(&mut faults, 7, &NOT_UNDATED, 20, 0);
     faults
 }
 
@@ -156,4 +176,24 @@ fn note(
             refusal: Refusal { number, place },
         });
     }
+}
+
+/// Q over the six-person file with every two faults of the catalogue but the extra person's, and the verdict: the refusal
+/// of the one that is looked at first.
+pub fn faulty_questions() -> Vec<(Question, Refusal)> {
+    let mut faults = question_faults(6, Q.from);
+    faults.retain(|fault| fault.number_of_question != EXTRA_PERSON);
+    let mut questions = vec![];
+    for one in &faults {
+        for other in &faults {
+            let together = one.number_of_question != other.number_of_question;
+            if together && one.rank() <= other.rank() {
+                let mut numbers = numbers_of(&Q, 0);
+                numbers[other.number_of_question] = other.value;
+                numbers[one.number_of_question] = one.value;
+                questions.push((question_of(&numbers), one.refusal));
+            }
+        }
+    }
+    questions
 }

@@ -48,7 +48,7 @@ fn ask_all(random: &mut Random, asked: &Asked, bookmark: &[u32; 10], n: u32) -> 
     let cells = random.one_of(&[9, 10, 25, 200]);
     let started = random.below(2) as u32;
     let _ = asked.portion(started, bookmark, cells);
-    let _ = asked.moved(&mut asked.held(started, bookmark), cells);
+    asked.moved_in_each_form(started, bookmark, cells);
     let working = random.one_of(&[0, 9, 10, 40, 90, 400]);
     let _ = asked.join(working, cells);
     verdict
@@ -84,7 +84,8 @@ fn a_hundred_thousand_damaged_files() {
 fn damaged_files_of_up_to_forty_persons() {
     let mut random = Random::of_test("damaged_files_of_up_to_forty_persons");
     let mut tally = Tally::default();
-    for _ in 0..rounds(2_000, 40_000) {
+    // A third of the questions leave undated links out, and there are no others before the damage.
+    for _ in 0..rounds(3_000, 60_000) {
         // Few links a person, so that brute force gets through what still passes.
         let persons = random.between(8, 40);
         let shape = files::two_way_family(&mut random, persons);

@@ -35,6 +35,9 @@ fn everything_about_small_files_at_both_edges() {
             for library in AT_THE_EDGES {
                 let asked = Asked::new(shape.bytes(), question).of(library);
                 asked.everything(n as u32);
+                if question.undated == 1 {
+                    asked.to_the_end_with_every_room(asked.fresh_stored());
+                }
             }
         }
     }
@@ -51,6 +54,7 @@ fn rooms_from_1_to_50() {
             let rooms = vec![room; 157];
             asked.by_rooms(&rooms);
             let _ = asked.moved_to_the_end(asked.fresh(), &rooms);
+            let _ = asked.moved_to_the_end(asked.fresh_stored(), &rooms);
             let _ = asked.join(asked.enough(), 10 * room);
         }
     }
@@ -86,7 +90,7 @@ fn slices_of_no_elements_at_both_edges() {
             for started in [0, 1] {
                 let _ = asked.portion(started, &[], 0);
                 let _ = asked.portion(started, &[], 30);
-                let _ = asked.moved(&mut asked.held(started, &[1; 10]), 0);
+                asked.moved_in_each_form(started, &[1; 10], 0);
             }
             let _ = asked.join(0, 0);
             let _ = asked.join(0, 30);

@@ -3,13 +3,15 @@
 //!
 //! Covers: all 2^12 graphs of four persons, all ordered pairs of From and To, all hops 1 to 8; all graphs of two and three
 //! persons; graphs of five persons by seeded samples, of any density and sparse, and with all links or all but one; files
-//! of four and five persons with classes, meanings and windows by a seeded sample.
+//! of four and five persons with classes, meanings and windows by a seeded sample. With undated links admitted and left
+//! out: all graphs of three persons whose links are missing, undated or dated, all ways in which the links of the full
+//! graph of four persons are undated or dated, and a seeded sample of what lies between.
 
 use independent::asked::Asked;
 use independent::checker;
-use independent::files::{self, graph_of_number, links_of_graph};
+use independent::files::{self, graph_of_number, links_of_graph, LinkFile};
 use independent::lister::Question;
-use independent::questions::{random_question, Q};
+use independent::questions::{first_to_last, random_question, Q};
 use independent::random::{rounds, Random};
 
 /// Every ordered pair of From and To.
@@ -27,16 +29,10 @@ fn for_each_pair(n: u32, mut each: impl FnMut(u32, u32)) {
 /// hops. So from the higher of n - 1 and 2(n - 2) hops on, both lists stay what they are, and only the fewest hops of a
 /// person out of reach, k + 1, still change. The search and the join are asked once all the same at the hops beyond: what
 /// they reserve for hops that nobody goes could go wrong too.
-fn every_number_of_hops(file: &[u8], n: u32, from: u32, to: u32) {
+fn every_number_of_hops(file: &[u8], n: u32, question: Question) {
     let last_that_differs = (n - 1).max(2 * (n - 2));
     for hops in 1..=8 {
-        let question = Question {
-            from,
-            to,
-            hops,
-            ..Q
-        };
-        let asked = Asked::new(file.to_vec(), question);
+        let asked = Asked::new(file.to_vec(), Question { hops, ..question });
         if hops <= last_that_differs {
             asked.everything(n);
         } else {
@@ -48,7 +44,10 @@ fn every_number_of_hops(file: &[u8], n: u32, from: u32, to: u32) {
 /// One graph with all questions of that plain sort about it.
 fn every_question_about(n: u32, graph: u32) {
     let file = graph_of_number(n, graph).bytes();
-    for_each_pair(n, |from, to| every_number_of_hops(&file, n, from, to));
+    for_each_pair(n, |from, to| {
+        let question = Question { from, to, ..Q };
+        every_number_of_hops(&file, n, question);
+    });
 }
 
 /// All graphs of four persons in which person 0 has the links that `row` says: an eighth of them all, so that eight tests
@@ -172,4 +171,81 @@ fn four_and_five_persons_with_classes_meanings_and_windows() {
         }
     }
     assert!(longest > 5, "{longest}");
+}
+
+// Links undated and dated.
+
+/// The graph of a number, in which each bit of `dates` says of one link that it has a day.
+fn dated_graph(persons: u32, graph: u32, dates: u32) -> LinkFile {
+    graph_of_number(persons, graph).dated(|link| 9 * (dates >> link & 1))
+}
+
+/// Undated links admitted, and left out.
+const BOTH: [Question; 2] = [Q, Question { undated: 0, ..Q }];
+
+#[test]
+fn every_graph_of_three_persons_with_links_undated_and_dated() {
+    let mut graphs = 0;
+    for graph in 0..1 << links_of_graph(3) {
+        for dates in 0..1 << u32::count_ones(graph) {
+            let file = dated_graph(3, graph, dates).bytes();
+            graphs += 1;
+            for_each_pair(3, |from, to| {
+                for question in BOTH {
+                    every_number_of_hops(
+                        &file,
+                        3,
+                        Question {
+                            from,
+                            to,
+                            ..question
+                        },
+                    );
+                }
+            });
+        }
+    }
+    // Each of six links is missing, undated or dated.
+    assert_eq!(graphs, 3_usize.pow(6));
+}
+
+#[test]
+fn the_full_graph_of_four_persons_with_links_undated_and_dated() {
+    // All are linked with all, so that but for the persons' numbers one pair of From and To stands for every other.
+    let links = links_of_graph(4);
+    for dates in 0..1 << links {
+        let file = dated_graph(4, (1 << links) - 1, dates).bytes();
+        for Question { undated, .. } in BOTH {
+            for hops in 1..=8 {
+                let question = Question {
+                    undated,
+                    ..first_to_last(4, hops)
+                };
+                Asked::new(file.clone(), question).once_by_each_route(4);
+            }
+        }
+    }
+}
+
+#[test]
+fn a_sample_of_four_persons_with_links_undated_and_dated() {
+    let mut random = Random::of_test("a_sample_of_four_persons_with_links_undated_and_dated");
+    for _ in 0..rounds(400, 8_000) {
+        let all = 1 << links_of_graph(4);
+        let [graph, dates] = [(); 2].map(|()| random.below(all) as u32);
+        let file = dated_graph(4, graph, dates).bytes();
+        for_each_pair(4, |from, to| {
+            for question in BOTH {
+                every_number_of_hops(
+                    &file,
+                    4,
+                    Question {
+                        from,
+                        to,
+                        ..question
+                    },
+                );
+            }
+        });
+    }
 }

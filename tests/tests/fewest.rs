@@ -1,9 +1,10 @@
 //! Fewest hops, through `kin_fewest`, against an independent breadth-first search and admission test.
 //!
-//! Covers: the six-person file for every pair, hops, class sum, meaning and window that cuts between its days; every
-//! refusal 10 to 15 at its limits, alone and in every pair, and after the file's own; every kind under every class sum;
-//! undated links, both meanings, both ends of the window; paths longer than the hops; random files and largest ones with
-//! every person. That the file stays as it came is asked in every call.
+//! Covers: the six-person file for every pair, hops, class sum, meaning and window that cuts between its days, with its
+//! undated links and without; every refusal 10 to 15 and 20 at its limits, alone and in every pair, and after the file's
+//! own; every kind under every class sum; undated links admitted and left out, both meanings, both ends of the window;
+//! paths longer than the hops; random files and largest ones with every person. That the file stays as it came is asked
+//! in every call.
 
 use independent::checker::{refused, Refusal, LAST_DAY};
 use independent::faults::{catalogue, with_faults};
@@ -11,7 +12,8 @@ use independent::files::{self, feed, link, LinkFile};
 use independent::lister::{self, Question};
 use independent::outside;
 use independent::questions::{
-    first_to_last, numbers_of, question_faults, question_of, random_question, QuestionFault, Q,
+    first_to_last, numbers_of, question_faults, question_of, random_question, QuestionFault,
+    EXTRA_PERSON, Q,
 };
 use independent::random::Random;
 
@@ -76,13 +78,16 @@ fn every_class_sum_and_meaning_of_the_six_person_file() {
     for classes in 0..17 {
         for meaning in 0..4 {
             for to in 1..6 {
-                let question = Question {
-                    classes,
-                    meaning,
-                    to,
-                    ..Q
-                };
-                agree_for_all(&file, &question);
+                for undated in 0..3 {
+                    let question = Question {
+                        classes,
+                        meaning,
+                        to,
+                        undated,
+                        ..Q
+                    };
+                    agree_for_all(&file, &question);
+                }
             }
         }
     }
@@ -98,11 +103,12 @@ fn every_window_between_the_days_of_the_six_person_file() {
         .collect();
     for &first_day in &days {
         for &last_day in &days {
-            for meaning in [1, 2] {
+            for (meaning, undated) in [(1, 1), (2, 1), (1, 0), (2, 0), (1, 2)] {
                 let question = Question {
                     first_day,
                     last_day,
                     meaning,
+                    undated,
                     ..Q
                 };
                 agree_for_all(&file, &question);
@@ -122,11 +128,17 @@ fn one_link(kind: u8, day: u32, meaning: u8) -> Vec<u8> {
     file.bytes()
 }
 
+/// Every kind that is known, with its class.
+fn kinds_with_their_classes() -> impl Iterator<Item = (u8, u32)> {
+    let papers = (16..=31).map(|kind| (kind, 8));
+    [(1, 1), (2, 1), (3, 2), (4, 1), (5, 4)]
+        .into_iter()
+        .chain(papers)
+}
+
 #[test]
 fn every_kind_under_every_class_sum() {
-    let class_of = [(1, 1), (2, 1), (3, 2), (4, 1), (5, 4)];
-    let papers = (16..=31).map(|kind| (kind, 8));
-    for (kind, class) in class_of.into_iter().chain(papers) {
+    for (kind, class) in kinds_with_their_classes() {
         for classes in 1..=15 {
             for day in [0, 9] {
                 let question = Question {
@@ -188,6 +200,50 @@ fn the_feed_of_a_dated_link_has_the_meaning_asked_for() {
 }
 
 #[test]
+fn the_eighth_number_decides_of_undated_links_alone() {
+    for (kind, class) in kinds_with_their_classes() {
+        for (classes, undated) in (1..=15).flat_map(|classes| [(classes, 0), (classes, 1)]) {
+            for (meaning, feed_meaning) in [(1, 1), (1, 2), (2, 1), (2, 2)] {
+                for (first_day, last_day) in [(1, LAST_DAY), (5, 5), (9, 9)] {
+                    let question = Question {
+                        classes,
+                        meaning,
+                        first_day,
+                        last_day,
+                        undated,
+                        ..first_to_last(2, 1)
+                    };
+                    let in_sum = classes & class != 0;
+                    let hops = |admitted| if admitted { 1 } else { 2 };
+                    let link = one_link(kind, 0, feed_meaning);
+                    stated(&link, &question, 0, hops(in_sum && undated == 1));
+                    let link = one_link(kind, 9, feed_meaning);
+                    let same = u32::from(feed_meaning) == meaning;
+                    stated(&link, &question, 0, hops(in_sum && same && first_day != 5));
+                }
+            }
+        }
+    }
+}
+
+#[test]
+fn a_shorter_way_over_an_undated_link() {
+    // From 0 to 3 at once by an undated link, or over 1 and 2.
+    let shape = files::undated(4, &[(0, 1), (0, 3), (1, 2), (2, 3)]);
+    let file = shape.dated(|link| [9, 0, 9, 9][link]).bytes();
+    for hops in 1..=8 {
+        let admitted = first_to_last(4, hops);
+        stated(&file, &admitted, 0, 1);
+        let left_out = Question {
+            undated: 0,
+            ..admitted
+        };
+        stated(&file, &left_out, 0, u64::from(hops + 1).min(3));
+        stated(&file, &left_out, 2, 1);
+    }
+}
+
+#[test]
 fn a_way_may_pass_through_from_and_beyond_it() {
     let file = files::undated(4, &[(1, 0), (0, 3), (2, 1)]).bytes();
     let question = first_to_last(4, 3);
@@ -204,7 +260,7 @@ fn ask_with(file: &[u8], faults: &[&QuestionFault]) -> Result<u64, Refusal> {
     for fault in faults {
         numbers[fault.number_of_question] = fault.value;
     }
-    agree(file, &question_of(&numbers), numbers[7])
+    agree(file, &question_of(&numbers), numbers[EXTRA_PERSON])
 }
 
 #[test]
@@ -225,7 +281,7 @@ fn each_refusal_of_a_question_alone_and_in_pairs() {
 #[test]
 fn limits_that_pass() {
     let file = files::six_persons().bytes();
-    let limits: [(usize, &[u32]); 8] = [
+    let limits: [(usize, &[u32]); 9] = [
         (0, &[0, 1, 4]),
         (1, &[1, 5]),
         (2, &[1, 2, 7, 8]),
@@ -233,13 +289,14 @@ fn limits_that_pass() {
         (4, &[1, 2]),
         (5, &[1, 2, LAST_DAY]),
         (6, &[1, 2, LAST_DAY - 1, LAST_DAY]),
-        (7, &[0, 5]),
+        (7, &[0, 1]),
+        (EXTRA_PERSON, &[0, 5]),
     ];
     for (number, values) in limits {
         for &value in values {
             let mut numbers = numbers_of(&Q, 2);
             numbers[number] = value;
-            assert!(agree(&file, &question_of(&numbers), numbers[7]).is_ok());
+            assert!(agree(&file, &question_of(&numbers), numbers[EXTRA_PERSON]).is_ok());
         }
     }
 }

@@ -1,17 +1,19 @@
-//! The held listing, through `kin_held`, against the brute-force lister: answer, every output cell and all 18 cells of
-//! the held listing.
+//! The held listing, through `kin_held`, against the brute-force lister: answer, every output cell and all 19 cells of
+//! the held listing, or all 18 of one stored before undated links could be left out.
 //!
 //! Covers: the six-person file moved through; whole listings at rooms 1, 2, 3, 40 and random, in one place and from
 //! whichever desk; past the end, again and again; no chain at all; garbage in the record of one not yet started; bad
-//! records in a started one; every number in the started cell; the file and the question changed between calls. Sizes
-//! and refusals are in `held_refusals.rs`. The file has to stay as it came in every call, and so has the memory beside
-//! what is lent.
+//! records in a started one; every number in the started cell; the file and the question changed between calls; one
+//! stored before beside today's form, call by call with every room. Sizes and refusals are in `held_refusals.rs`. The
+//! file has to stay as it came in every call, and so has the memory beside what is lent.
 
 use independent::asked::{records, Asked};
 use independent::files::{self, random_graph};
 use independent::lent::{untouched, Lent};
-use independent::lister::{listed, record, Held, Question};
-use independent::questions::{first_to_last, q_after, random_question, A, B, C, Q, Q_HELD};
+use independent::lister::{listed, listing, record, Held, Question};
+use independent::questions::{
+    first_to_last, q_after, q_stored_after, random_question, A, B, C, Q, Q_HELD, Q_STORED,
+};
 use independent::random::Random;
 
 /// Numbers that are started.
@@ -97,7 +99,7 @@ fn every_question_over_the_six_person_file() {
 fn whole_listings_at_rooms_1_2_3_and_40() {
     let mut random = Random::of_test("whole_listings_at_rooms_1_2_3_and_40");
     let (mut with_chains, mut longest) = (0, 0);
-    for _ in 0..10_000 {
+    for _ in 0..12_000 {
         let desk = Asked::random(&mut random, 7);
         let count = desk.chains().len();
         with_chains += usize::from(count > 1);
@@ -131,17 +133,21 @@ fn a_held_listing_that_stays_in_its_place() {
     let mut random = Random::of_test("a_held_listing_that_stays_in_its_place");
     for _ in 0..2_000 {
         let desk = Asked::random(&mut random, 6);
-        let mut lent = Lent::shifted(&desk.fresh(), random.below(4));
-        let mut handed_over = vec![];
-        // Two calls more than it takes at the smallest room.
-        for _ in 0..desk.chains().len() + 2 {
-            let cells = random.between(10, 35);
-            let (answer, out) = desk.moved_in_place(&mut lent, cells);
-            let answer = answer.expect("neither file nor question is refused");
-            handed_over.extend_from_slice(&out[..10 * answer.count as usize]);
-        }
-        assert_eq!(handed_over, records(desk.chains()));
+        let lent = Lent::shifted(&desk.fresh(), random.below(4));
+        to_the_end_in_its_place(&mut random, &desk, lent);
     }
+}
+
+fn to_the_end_in_its_place(random: &mut Random, desk: &Asked, mut lent: Lent<u32>) {
+    let mut handed_over = vec![];
+    // Two calls more than it takes at the smallest room.
+    for _ in 0..desk.chains().len() + 2 {
+        let cells = random.between(10, 35);
+        let (answer, out) = desk.moved_in_place(&mut lent, cells);
+        let answer = answer.expect("neither file nor question is refused");
+        handed_over.extend_from_slice(&out[..10 * answer.count as usize]);
+    }
+    assert_eq!(handed_over, records(desk.chains()));
 }
 
 #[test]
@@ -368,8 +374,106 @@ fn the_question_changed_between_calls() {
         let mut other = random_question(&mut random, n as usize);
         (other.from, other.to) = (desk.question.from, desk.question.to);
         let changed = Asked::new(desk.file.clone(), other);
-        let record = held[8..].try_into().expect("ten cells");
-        let mut held = changed.held(held[7], record);
+        let record = held[9..].try_into().expect("ten cells");
+        let mut held = changed.held(held[8], record);
         let _ = changed.moved(&mut held, 30);
     }
+}
+
+// Stored before undated links could be left out.
+
+#[test]
+fn the_six_person_file_stored_before() {
+    // The last two chains rest on an undated link.
+    let desk = Asked::six_persons(Q);
+    let mut stored = Q_STORED;
+    for (chain, ended) in [(A, false), (B, false), (C, true)] {
+        let (answer, out) = desk.moved(&mut stored, 10);
+        assert_eq!((answer, stored), (listed(1, ended), q_stored_after(chain)));
+        assert_eq!(out, record(chain));
+    }
+    desk.stays_at_its_end(stored);
+}
+
+/// A desk that admits undated links, and whether a chain of its listing rests on one.
+fn random_desk_with_undated(random: &mut Random) -> (Asked, bool) {
+    let Asked { file, question, .. } = Asked::random(random, 6);
+    let [left_out, admitted] = [0, 1].map(|undated| Question {
+        undated,
+        ..question
+    });
+    let fewer = listing(&file, &left_out) != listing(&file, &admitted);
+    (Asked::new(file, admitted), fewer)
+}
+
+#[test]
+fn stored_before_beside_todays_form_with_every_room() {
+    let mut random = Random::of_test("stored_before_beside_todays_form_with_every_room");
+    let mut on_undated = 0;
+    for _ in 0..2_000 {
+        let (desk, fewer) = random_desk_with_undated(&mut random);
+        on_undated += usize::from(fewer);
+        let count = desk.chains().len();
+        for room in 1..=count + 1 {
+            let (mut held, mut stored) = (desk.fresh(), desk.fresh_stored());
+            // Two calls more than it takes.
+            for call in 0..count / room + 3 {
+                let cells = 10 * room + call % 10;
+                let answer = desk.moved_side_by_side(&mut held, &mut stored, cells);
+                let left = count.saturating_sub(call * room);
+                assert_eq!(answer, listed(left.min(room) as u64, left <= room));
+            }
+        }
+    }
+    assert!(on_undated > 200, "{on_undated}");
+}
+
+#[test]
+fn stored_before_in_its_place() {
+    let mut random = Random::of_test("stored_before_in_its_place");
+    for _ in 0..1_000 {
+        let (desk, _) = random_desk_with_undated(&mut random);
+        let lent = Lent::shifted(&desk.fresh_stored(), random.below(4));
+        to_the_end_in_its_place(&mut random, &desk, lent);
+    }
+}
+
+#[test]
+fn stored_before_with_any_record_and_any_started_mark() {
+    let mut random = Random::of_test("stored_before_with_any_record_and_any_started_mark");
+    let (mut kept, mut bad) = (0, 0);
+    for _ in 0..2_000 {
+        let (desk, _) = random_desk_with_undated(&mut random);
+        for chain in desk.chains().iter().take(4) {
+            let mut record = record(chain);
+            if random.chance(1, 3) {
+                record[random.below(10)] = random.below(7) as u32;
+            }
+            let started = random.one_of(&[0, 1, 2, 255, 1 << 31, u32::MAX]);
+            let (mut held, mut stored) =
+                (desk.held(started, &record), desk.stored(started, &record));
+            let cells = random.between(9, 45);
+            match desk.moved_side_by_side(&mut held, &mut stored, cells) {
+                Ok(_) => kept += 1,
+                Err(_) => bad += 1,
+            }
+        }
+    }
+    assert!(kept > 300 && bad > 100, "{kept} kept, {bad} bad");
+}
+
+#[test]
+fn leaving_out_undated_links_refuses_what_rests_on_one() {
+    let admitted = Asked::six_persons(Q);
+    let left_out = Asked::six_persons(Question { undated: 0, ..Q });
+    for chain in [B, C] {
+        left_out.refuses_to_move(left_out.held(1, &record(chain)), 30, 17, 0);
+        admitted.moved_in_each_form(1, &record(chain), 30);
+    }
+    // The first chain is dated at every hop; with 0 none follows it.
+    left_out.stays_at_its_end(left_out.held(1, &record(A)));
+    let mut held = left_out.fresh();
+    let (answer, out) = left_out.moved(&mut held, 10);
+    assert_eq!((answer, &out[..]), (listed(1, true), &record(A)[..]));
+    assert_eq!(held, left_out.held(1, &record(A)));
 }

@@ -3,8 +3,8 @@
 //!
 //! Covers: the cases stated for the six-person file; every question over it; hops 1 to 8; working cells exactly enough,
 //! one short, far too few and more than enough; rooms short of the listing, exact and beyond it; no chain at all; half
-//! chains that nobody reaches or that would visit From; random files and random graphs, also with links both ways; the
-//! same chains as the portion hands over; all links between 64 persons. Sizes and refusals are in `join_refusals.rs`.
+//! chains that nobody reaches, that would visit From or that rest on undated links; random files and random graphs, also
+//! with links both ways; the same chains as the portion hands over; all links between 64 persons. Sizes and refusals are in `join_refusals.rs`.
 //! Each cell comes with a value of its own, and the file and the memory beside what is lent have to stay as they came in
 //! every call.
 
@@ -118,6 +118,38 @@ fn every_question_over_the_six_person_file() {
             }
         }
     }
+}
+
+#[test]
+fn half_chains_that_rest_on_an_undated_link() {
+    // To 0 leads one link only, from 5, and it is undated.
+    let admitted = Question {
+        from: 3,
+        to: 0,
+        ..Q
+    };
+    let halves: [&[u32]; 3] = [&[0], &[5, 0], &[4, 5, 0]];
+    let asked = Asked::six_persons(admitted);
+    let right = (
+        listed(1, true),
+        cells_of(&halves, 35),
+        cells_of(&[&[3, 5, 0]], 25),
+    );
+    assert_eq!(asked.join(35, 25), right);
+    asked.refuses_to_join(29, 25, 18, 0);
+    let asked = Asked::six_persons(Question {
+        undated: 0,
+        ..admitted
+    });
+    for working in [10, 35] {
+        let right = (
+            listed(0, true),
+            cells_of(&halves[..1], working),
+            untouched(25),
+        );
+        assert_eq!(asked.join(working, 25), right);
+    }
+    asked.refuses_to_join(9, 25, 18, 0);
 }
 
 // Small graphs.
@@ -267,7 +299,7 @@ fn from_and_to_anywhere() {
         let parts = random.between(2, 5);
         let file = random_graph(&mut random, persons, parts).bytes();
         let mut question = random_question(&mut random, persons);
-        question.classes = 15;
+        (question.classes, question.undated) = (15, 1);
         Asked::new(file, question).joined_around_the_bounds();
     }
 }

@@ -10,7 +10,7 @@ use independent::files;
 use independent::lent::untouched;
 use independent::lister::{listed, Question};
 use independent::outside;
-use independent::questions::{numbers_of, question_faults, question_of, Q};
+use independent::questions::{faulty_questions, Q};
 use independent::random::Random;
 
 // Lengths.
@@ -74,21 +74,10 @@ fn every_refusal_of_the_file() {
 
 #[test]
 fn every_refusal_of_the_question() {
-    let mut faults = question_faults(6, Q.from);
-    faults.retain(|fault| fault.number_of_question != 7);
-    for one in &faults {
-        for other in &faults {
-            let together = one.number_of_question != other.number_of_question;
-            if together && one.rank() <= other.rank() {
-                let mut numbers = numbers_of(&Q, 0);
-                numbers[other.number_of_question] = other.value;
-                numbers[one.number_of_question] = one.value;
-                let asked = Asked::six_persons(question_of(&numbers));
-                let Refusal { number, place } = one.refusal;
-                for (working, cells) in [(100, 45), (100, 9), (9, 45), (0, 0)] {
-                    asked.refuses_to_join(working, cells, number, place);
-                }
-            }
+    for (question, Refusal { number, place }) in faulty_questions() {
+        let asked = Asked::six_persons(question);
+        for (working, cells) in [(100, 45), (100, 9), (9, 45), (0, 0)] {
+            asked.refuses_to_join(working, cells, number, place);
         }
     }
 }

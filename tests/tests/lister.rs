@@ -4,8 +4,11 @@
 
 use independent::checker::{refused, LAST_DAY};
 use independent::files;
-use independent::lister::{fewest, half_chains, listing, listing_by_hops, record, Chain, Question};
-use independent::questions::Q;
+use independent::lister::{
+    fewest, half_chains, held_of, listing, listing_by_hops, question_held, record, stored_of,
+    Chain, Question,
+};
+use independent::questions::{Q, Q_HELD, Q_STORED};
 
 fn lists(question: Question, chains: &[&[u32]]) {
     let file = files::six_persons().bytes();
@@ -31,6 +34,9 @@ fn the_stated_listings_of_the_six_person_file() {
     lists(Question { first_day: 700_001, ..Q }, &[b, c]);
     lists(Question { last_day: 700_400, ..Q }, &[a, b, c]);
     lists(Question { last_day: 700_399, ..Q }, &[]);
+    lists(Question { first_day: 700_001, undated: 0, ..Q }, &[]);
+    // The link from 0 to 2 has no day, and all of (0 1 3 5) has.
+    lists(Question { undated: 0, ..Q }, &[a]);
 }
 
 #[test]
@@ -48,6 +54,9 @@ fn the_stated_refusals_of_questions() {
     refuses(Question { first_day: 0, ..Q }, 15, 0);
     refuses(Question { last_day: LAST_DAY + 1, ..Q }, 15, 0);
     refuses(Question { first_day: 9, last_day: 8, ..Q }, 15, 0);
+    refuses(Question { undated: 2, ..Q }, 20, 0);
+    refuses(Question { undated: u32::MAX, ..Q }, 20, 0);
+    refuses(Question { last_day: 0, undated: 2, ..Q }, 15, 0);
 }
 
 #[test]
@@ -104,6 +113,20 @@ fn fewest_hops_of_the_six_person_file() {
     };
     assert_eq!(fewest(&file, &same, 6), refused(10, 2));
     assert_eq!(fewest(&file, &same, 0), refused(11, 0));
+    // From 5 leads an undated link only, and to 2 one from 0 that is undated, and one from 3.
+    let to_2 = |undated, person| {
+        let question = Question {
+            to: 2,
+            undated,
+            ..Q
+        };
+        fewest(&file, &question, person)
+    };
+    let all = |undated| (0..6).map(move |person| to_2(undated, person).expect("it passes"));
+    assert!(all(1).eq([1, 2, 0, 1, 3, 2]));
+    assert!(all(0).eq([3, 2, 0, 1, 5, 5]));
+    assert_eq!(to_2(2, 0), refused(20, 0));
+    assert_eq!(to_2(2, 6), refused(10, 2));
 }
 
 #[test]
@@ -123,6 +146,16 @@ fn the_stated_half_chains_of_the_six_person_file() {
     assert_eq!(halves(3), stated[..3]);
     assert_eq!(halves(4), stated);
     assert_eq!(halves(5), stated);
+}
+
+/// Held in 18 cells a question has seven numbers, and undated links count; in 19 it has its own.
+#[test]
+fn the_question_of_a_held_listing() {
+    assert_eq!(question_held(&Q_HELD), Q);
+    assert_eq!(question_held(&Q_STORED), Q);
+    let left_out = Question { undated: 0, ..Q };
+    assert_eq!(question_held(&held_of(&left_out, 1, &[9; 10])), left_out);
+    assert_eq!(question_held(&stored_of(&left_out, 1, &[9; 10])), Q);
 }
 
 /// Every chain is met at one split only: the left half of its hops, rounded up, and a half chain from there.

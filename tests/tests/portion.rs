@@ -1,7 +1,7 @@
 //! The portion, through `kin_portion`, against the brute-force lister: answer and every output cell.
 //!
 //! Covers: every case stated for the six-person file but the half chains; small graphs on which wrong pruning loses
-//! chains, fresh and resumed at every chain; a large dead region; outputs of every length; the order of refusals 1 to 17.
+//! chains, fresh and resumed at every chain; a large dead region; outputs of every length; the order of refusals 1 to 17, 20.
 //! Long and random listings are in `listings.rs`, bookmarks in `bookmarks.rs`. File and bookmark have to stay as they
 //! came in every call, and the output's cells are compared whole.
 
@@ -12,9 +12,7 @@ use independent::files;
 use independent::lent::untouched;
 use independent::lister::{listed, record, Question};
 use independent::outside;
-use independent::questions::{
-    first_to_last, numbers_of, question_faults, question_of, random_question, A, B, C, Q,
-};
+use independent::questions::{faulty_questions, first_to_last, random_question, A, B, C, Q};
 use independent::random::Random;
 
 // The stated cases.
@@ -270,23 +268,11 @@ fn no_cells_at_the_null_pointer() {
 fn every_refusal_before_those_that_follow() {
     let shape = files::six_persons();
     let file = shape.bytes();
-    let mut questions = question_faults(6, Q.from);
-    questions.retain(|fault| fault.number_of_question != 7);
-    for one in &questions {
-        for other in &questions {
-            let mut numbers = numbers_of(&Q, 0);
-            numbers[other.number_of_question] = other.value;
-            numbers[one.number_of_question] = one.value;
-            let together = one.number_of_question != other.number_of_question;
-            if together && one.rank() <= other.rank() {
-                for (started, bookmark, cells) in
-                    [(0, &[][..], 30), (1, &record(A), 30), (1, &[7], 9)]
-                {
-                    let asked = Asked::new(file.clone(), question_of(&numbers));
-                    let (answer, _) = asked.portion(started, bookmark, cells);
-                    assert_eq!(answer, Err(one.refusal), "{one:?} with {other:?}");
-                }
-            }
+    for (question, refusal) in faulty_questions() {
+        let asked = Asked::new(file.clone(), question);
+        for (started, bookmark, cells) in [(0, &[][..], 30), (1, &record(A), 30), (1, &[7], 9)] {
+            let (answer, _) = asked.portion(started, bookmark, cells);
+            assert_eq!(answer, Err(refusal), "{question:?}");
         }
     }
     for fault in catalogue(&shape) {

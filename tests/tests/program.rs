@@ -1,33 +1,38 @@
 //! The built program `chains`, run on bytes, against the brute-force lister: what it prints, byte for byte.
 //!
 //! Covers: every stated case of the six-person file that can be put to the program; refusals 1 to 9 by the catalogue of
-//! faults, 10 to 15 by the catalogue of questions, 19 by every short input; inputs of 0 to 60 bytes; inputs longer than
-//! it takes; inputs fed in pieces; listings of no chain, of one, of exactly one portion, of one more, of many portions;
-//! random files; a reader that goes away.
+//! faults, 10 to 15 and 20 by the catalogue of questions, 19 by every short input; inputs of 0 to 64 bytes, around the
+//! question's 32 with several contents; a question of seven numbers, as it was before; inputs longer than it takes, and
+//! how much it takes of them; inputs fed in pieces; listings of no chain, of one, of exactly one portion, of one more, of
+//! many portions; undated links admitted and left out; random files; a reader that goes away.
 
 use independent::checker::{refused, Refusal, LAST_DAY};
 use independent::faults::{catalogue, with_faults};
 use independent::files::{self, random_file, undated, LinkFile};
 use independent::lister::{listing, Question};
 use independent::questions::{
-    first_to_last, numbers_of, question_faults, question_of, random_question, Q,
+    first_to_last, numbers_of, question_faults, question_of, random_question, NOT_UNDATED, Q,
 };
 use independent::random::Random;
-use std::io::{Read, Write};
+use std::fs::File;
+use std::io::{Read, Seek, Write};
 use std::path::PathBuf;
 use std::process::{Child, Command, Stdio};
 
 /// What a question's bytes are, and the most bytes of a file that the program takes.
-const QUESTION: usize = 28;
+const QUESTION: usize = 32;
 const MOST_FILE: usize = 53_349;
 
+fn program() -> PathBuf {
+    PathBuf::from(env!("CARGO_MANIFEST_DIR")).join("../target/bin/chains")
+}
+
 fn started() -> Child {
-    let program = PathBuf::from(env!("CARGO_MANIFEST_DIR")).join("../target/bin/chains");
-    Command::new(&program)
+    Command::new(program())
         .stdin(Stdio::piped())
         .stdout(Stdio::piped())
         .spawn()
-        .unwrap_or_else(|fault| panic!("{}: {fault}", program.display()))
+        .unwrap_or_else(|fault| panic!("{}: {fault}", program().display()))
 }
 
 /// What the program prints on an input that is fed in pieces of so many bytes.
@@ -55,7 +60,7 @@ fn printed_in_pieces(input: &[u8], piece: usize) -> Vec<u8> {
 
 fn input_of(file: &[u8], question: &Question) -> Vec<u8> {
     let mut input = Vec::new();
-    for number in &numbers_of(question, 0)[..7] {
+    for number in question.numbers() {
         input.extend_from_slice(&number.to_le_bytes());
     }
     input.extend_from_slice(file);
@@ -67,7 +72,7 @@ fn asked_of(input: &[u8]) -> Question {
     for (number, bytes) in numbers.iter_mut().zip(input[..QUESTION].chunks(4)) {
         *number = u32::from_le_bytes(bytes.try_into().expect("four bytes"));
     }
-    question_of(&numbers)
+    Question::of_numbers(&numbers)
 }
 
 /// What the document says is printed.
@@ -125,6 +130,11 @@ fn the_stated_cases() {
         ..Q
     };
     assert_eq!(six(later), "4: 0 2 1 3 5\n3: 0 2 3 5\nend 2\n");
+    let nothing = Question {
+        undated: 0,
+        ..later
+    };
+    assert_eq!(six(nothing), "end 0\n");
     assert_eq!(
         six(Question {
             last_day: 700_400,
@@ -153,14 +163,62 @@ fn the_stated_cases() {
 }
 
 #[test]
-fn inputs_of_0_to_60_bytes() {
+fn undated_links_admitted_or_left_out() {
+    assert_eq!(six(Question { undated: 0, ..Q }), "3: 0 1 3 5\nend 1\n");
+    for undated in NOT_UNDATED {
+        let question = Question { undated, ..Q };
+        assert_eq!(six(question), "refused 20 at 0\n");
+        assert_eq!(agree(&input_of(&[], &question)), "refused 1 at 0\n");
+        let later = Question {
+            first_day: LAST_DAY,
+            last_day: 1,
+            ..question
+        };
+        assert_eq!(six(later), "refused 15 at 0\n");
+    }
+}
+
+#[test]
+fn inputs_of_0_to_64_bytes() {
     let input = input_of(&files::six_persons().bytes(), &Q);
-    for length in 0..=60 {
+    for length in 0..=64 {
         let told = agree(&input[..length]);
         if length < QUESTION {
             assert_eq!(told, "refused 19 at 0\n");
         }
     }
+}
+
+#[test]
+fn inputs_around_the_length_of_a_question() {
+    let file = files::six_persons().bytes();
+    let contents = [
+        vec![0; 33],
+        vec![255; 33],
+        b"KLF1".repeat(9),
+        (0..33).collect(),
+        input_of(&file, &Q),
+        input_of(&file, &Question { undated: 0, ..Q }),
+        input_of(&file, &Question { undated: 2, ..Q }),
+        input_of(&file, &Question { from: 6, ..Q }),
+        file,
+    ];
+    for content in contents {
+        for length in 27..=33 {
+            // From 32 bytes on the question is whole, and the file behind it is too short.
+            let right = if length < 32 { 19 } else { 1 };
+            let told = agree(&content[..length]);
+            assert_eq!(told, format!("refused {right} at 0\n"), "{length} bytes");
+        }
+    }
+}
+
+#[test]
+fn a_question_of_seven_numbers_is_none() {
+    // The mark is taken for the eighth number, and the person count for the mark.
+    let input = input_of(&files::six_persons().bytes(), &Q);
+    let before = [&input[..28], &input[32..]].concat();
+    assert_eq!(agree(&before), "refused 1 at 0\n");
 }
 
 #[test]
@@ -198,9 +256,35 @@ fn inputs_longer_than_it_takes() {
 }
 
 #[test]
+fn what_it_takes_of_a_longer_input() {
+    let whole = input_of(&files::largest().bytes(), &Question { hops: 1, ..Q });
+    assert_eq!(whole.len(), QUESTION + MOST_FILE - 1);
+    for more in [0, 1, 2, 3, 4, 5, 1000, 100_000] {
+        let mut input = whole.clone();
+        input.resize(whole.len() + more, 0);
+        let (printed, taken) = printed_from_a_file(&input);
+        assert_eq!(printed, right(&input), "{more} bytes more");
+        assert_eq!(taken, input.len().min(QUESTION + MOST_FILE) as u64);
+    }
+}
+
+/// What the program prints on an input that lies in a file, and how many bytes it took of it: where it stopped to read,
+/// the next one to read the same open file would go on.
+fn printed_from_a_file(input: &[u8]) -> (Vec<u8>, u64) {
+    let name = std::env::temp_dir().join(format!("chains-{}", std::process::id()));
+    std::fs::write(&name, input).expect("it is written");
+    let mut file = File::open(&name).expect("it is there");
+    std::fs::remove_file(&name).expect("it goes when it is closed");
+    let stdin = file.try_clone().expect("the same open file");
+    let program = Command::new(program()).stdin(stdin).output();
+    let printed = program.expect("it runs").stdout;
+    (printed, file.stream_position().expect("it has a place"))
+}
+
+#[test]
 fn inputs_fed_in_pieces() {
     let input = input_of(&files::six_persons().bytes(), &Q);
-    for piece in [1, 2, 3, 7, 27, 28, 29, 100, 215, 216] {
+    for piece in [1, 2, 3, 7, 27, 28, 29, 31, 32, 33, 100, 219, 220] {
         assert_eq!(
             printed_in_pieces(&input, piece),
             right(&input),
