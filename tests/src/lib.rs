@@ -1,5 +1,5 @@
 //! What the independent tests stand on. Nothing here is taken from the proved crates: `checker` and `lister` are
-//! written from the customer's document and the readings in docs/DECISIONS.md, plainly and without any pruning, so
+//! written from the customer's documents and the readings in docs/DECISIONS.md, plainly and without any pruning, so
 //! that an answer they share with the static library is no shared mistake.
 
 pub mod asked;

@@ -442,7 +442,7 @@ fn stored_before_in_its_place() {
 fn stored_before_with_any_record_and_any_started_mark() {
     let mut random = Random::of_test("stored_before_with_any_record_and_any_started_mark");
     let (mut kept, mut bad) = (0, 0);
-    for _ in 0..2_000 {
+    for _ in 0..3_000 {
         let (desk, _) = random_desk_with_undated(&mut random);
         for chain in desk.chains().iter().take(4) {
             let mut record = record(chain);

@@ -115,40 +115,19 @@ fn six(question: Question) -> String {
 }
 
 #[test]
+#[rustfmt::skip]
 fn the_stated_cases() {
     let whole = "3: 0 1 3 5\n4: 0 2 1 3 5\n3: 0 2 3 5\nend 3\n";
     assert_eq!(six(Q), whole);
-    assert_eq!(
-        six(Question { hops: 3, ..Q }),
-        "3: 0 1 3 5\n3: 0 2 3 5\nend 2\n"
-    );
+    assert_eq!(six(Question { hops: 3, ..Q }), "3: 0 1 3 5\n3: 0 2 3 5\nend 2\n");
     assert_eq!(six(Question { hops: 2, ..Q }), "end 0\n");
     assert_eq!(six(Question { classes: 1, ..Q }), "3: 0 1 3 5\nend 1\n");
     assert_eq!(six(Question { meaning: 2, ..Q }), "end 0\n");
-    let later = Question {
-        first_day: 700_001,
-        ..Q
-    };
+    let later = Question { first_day: 700_001, ..Q };
     assert_eq!(six(later), "4: 0 2 1 3 5\n3: 0 2 3 5\nend 2\n");
-    let nothing = Question {
-        undated: 0,
-        ..later
-    };
-    assert_eq!(six(nothing), "end 0\n");
-    assert_eq!(
-        six(Question {
-            last_day: 700_400,
-            ..Q
-        }),
-        whole
-    );
-    assert_eq!(
-        six(Question {
-            last_day: 700_399,
-            ..Q
-        }),
-        "end 0\n"
-    );
+    assert_eq!(six(Question { undated: 0, ..later }), "end 0\n");
+    assert_eq!(six(Question { last_day: 700_400, ..Q }), whole);
+    assert_eq!(six(Question { last_day: 700_399, ..Q }), "end 0\n");
     assert_eq!(six(Question { hops: 0, ..Q }), "refused 12 at 0\n");
     assert_eq!(six(Question { hops: 9, ..Q }), "refused 12 at 0\n");
     assert_eq!(six(Question { hops: 8, ..Q }), whole);
