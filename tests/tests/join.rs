@@ -4,9 +4,9 @@
 //! Covers: the cases stated for the six-person file; every question over it; hops 1 to 8; working cells exactly enough,
 //! one short, far too few and more than enough; rooms short of the listing, exact and beyond it; no chain at all; half
 //! chains that nobody reaches, that would visit From or that rest on undated links; random files and random graphs, also
-//! with links both ways; the same chains as the portion hands over; all links between 64 persons. Sizes and refusals are in `join_refusals.rs`.
-//! Each cell comes with a value of its own, and the file and the memory beside what is lent have to stay as they came in
-//! every call.
+//! with links both ways; the same chains as the portion hands over; all links between 64 persons. Sizes and refusals are
+//! in `join_refusals.rs`. Each cell comes with a value of its own, and the file and the memory beside what is lent have to
+//! stay as they came in every call.
 
 use independent::asked::{as_they_came, cells_of, Asked};
 use independent::files::{self, random_graph};

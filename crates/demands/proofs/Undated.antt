@@ -4,7 +4,7 @@ use mathlib.Core.Path.{_≡_, _∙_}
 use mathlib.Core.List.{List, [], _∷_}
 use Prim.Native.Nat.{ℕ}
 use Rattle.question.specs.declared.Question.{Question}
-use Rattle.question.proofs.Undated.{as-before, admitted-dated}
+use Rattle.question.proofs.Undated.{as-before, dated-as-before, admitted-dated}
 use Rattle.distance.specs.Answers.{answered}
 use Rattle.demands.specs.Paths.{Reached}
 use Rattle.demands.specs.Undated.{AnswersAsBefore, DatedHops, UndatedAsSaid}
@@ -32,5 +32,6 @@ undated-as-said =
     record {
       admits = λ file q wants. (as-before file q wants, answers-before file q wants);
       leavesOut = admitted-dated;
+      keepsDated = dated-as-before;
       dated = λ file q asked none c m. dated-hops file q none c (demand-two file q asked .onceInOrder .2 c m .reached);
     }

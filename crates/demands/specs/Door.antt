@@ -64,7 +64,8 @@ pub record AtTheDoor : Type 0 where
   pub kinHeldMoves : {file cells cells′ out out′ : List ℕ} {answer : ℕ} → HeldNumber file cells cells′ out out′ answer → heldWhole (length cells) ≡ true
       → (said : code.Answer) × MovedOn file (heldOf cells) (heldOf cells′) out out′ said × (answer ≡ listedNumber (answerSaid said))
   -- "a held listing stored before counts as 1": it is answered, and left, as today's form of it with undated 1 would be, cell by cell
-  pub kinHeldStored : {file cells cells′ today out out′ other : List ℕ} {answer number : ℕ} → length cells ≡ storedSize → HeldNumber file cells cells′ out out′ answer → HeldNumber file (asToday cells) today out other number
+  pub kinHeldStored : {file cells cells′ today out out′ other : List ℕ} {answer number : ℕ} → length cells ≡ storedSize → HeldNumber file cells cells′ out out′ answer
+      → HeldNumber file (asToday cells) today out other number
       → (number ≡ answer) × (today ≡ asToday cells′) × (other ≡ out′)
   -- "with none, nothing in it changes"
   pub kinHeldStays : {file cells cells′ out out′ : List ℕ} {answer : ℕ} → HeldNumber file cells cells′ out out′ answer → countIn answer ≡ 0 → (cells′ ≡ cells) × (out′ ≡ out)

@@ -18,7 +18,7 @@ use Rattle.ways.specs.Sizes.{recordSize}
 use Rattle.question.specs.declared.Question.{Question}
 use Rattle.question.specs.Asked.{askedFault}
 use Rattle.question.specs.Admission.{admitted, AdmittedLink}
-use Rattle.question.specs.Before.{nextBefore, askedBefore, askedOfBefore, AsBefore}
+use Rattle.question.specs.Before.{admittedBefore, nextBefore, askedBefore, askedOfBefore, AsBefore}
 use Rattle.distance.specs.Answers.{hopsSaid, unlessRefused, FewestHops}
 use Rattle.distance.specs.declared.HopsAnswer.{HopsAnswer}
 use Rattle.listing.specs.Portions.{Start, refusalOf, portionOf}
@@ -59,6 +59,8 @@ DatedHops file q (p ∷ v ∷ c) = ((l : AdmittedLink file q p v) × (day file (
 pub record UndatedAsSaid : Type 0 where
   -- "1 to admit undated links": everything is as it was before there was such a number
   pub admits : (file : List ℕ) (q : Question) → q .undated ≡ 1 → AsBefore file q × AnswersAsBefore file q
-  -- "0 to leave them out": no undated link is admitted, so no chain of the listing rests on one
+  -- "0 to leave them out": no undated link is admitted, and every other one as before
   pub leavesOut : (file : List ℕ) (q : Question) → q .undated ≡ 0 → (link : ℕ) → admitted file q link ≡ true → day file link ≢ 0
+  pub keepsDated : (file : List ℕ) (q : Question) (link : ℕ) → day file link ≢ 0 → admitted file q link ≡ admittedBefore file q link
+  -- so no chain of the listing rests on an undated link
   pub dated : (file : List ℕ) (q : Question) → askedFault file q ≡ sound → q .undated ≡ 0 → (c : List ℕ) → c ∈ listingFor file q → DatedHops file q c

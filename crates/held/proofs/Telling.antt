@@ -30,9 +30,9 @@ pub kept-some : (count started : ℕ) (bookmark cells : List ℕ) → 0 < count 
 kept-some zero started bookmark cells some = absurd (omega arith)
 kept-some (suc count) started bookmark cells some = refl
 
--- the held listing with that stored in it
-abbrev pub stored : Held → Kept → Held
-stored held kept = record { question = held .question; started = kept .started; «record» = kept .«record» }
+-- the held listing with that put into it
+abbrev pub keeping : Held → Kept → Held
+keeping held kept = record { question = held .question; started = kept .started; «record» = kept .«record» }
 
 module _ (file : List ℕ) (held : Held) {out out′ : List ℕ} {answer : code.Answer} (p : Portioned file (held .question) (startOf held) out out′ answer) where
   -- the records that the answer counts stand in the output
@@ -45,11 +45,11 @@ module _ (file : List ℕ) (held : Held) {out out′ : List ℕ} {answer : code.
       go (listed (suc count) ended) i = omega (arith, last-within p i (chains-listing file (held .question) (listed-first p i)) (omega arith))
 
   -- with what is kept behind the portion stored in it, the held listing's promise holds
-  pub moved-on : MovedOn file held (stored held (keptBehind (countOf (answerSaid answer)) (held .started) (held .«record») out′)) out out′ answer
+  pub moved-on : MovedOn file held (keeping held (keptBehind (countOf (answerSaid answer)) (held .started) (held .«record») out′)) out out′ answer
   moved-on = record { portioned = p; keeps = go (answerSaid answer) (portionFor file (held .question) (startOf held) out) refl refl }
     where
       go : (said : Answer) (chains : List (List ℕ)) → answerSaid answer ≡ said → portionFor file (held .question) (startOf held) out ≡ chains
-          → stored held (keptBehind (countOf said) (held .started) (held .«record») out′) ≡ lent (portionFault file (held .question) (startOf held) out) (heldAfter chains held) held
+          → keeping held (keptBehind (countOf said) (held .started) (held .«record») out′) ≡ lent (portionFault file (held .question) (startOf held) out) (heldAfter chains held) held
       go (refused number place) chains i j = rw (refused-fault p i)
       go (listed zero ended) chains i j = rw (listed-sound p i) (sym (none-after chains held (sym (listed-count p i ∙ ap length j))))
       go (listed (suc count) ended) [] i j = absurd (omega (arith, listed-count p i ∙ ap length j))

@@ -25,7 +25,7 @@ use Rattle.question.proofs.Leads.{next-none}
 use Rattle.join.specs.Lists.{halvesFor, chainsFor, halvesFault, joinFault}
 use Rattle.join.specs.Answers.{Answered, Joins, Passed, halvesIn, JoinsIn}
 
--- 1 to 16: nothing has changed
+-- 1 to 15, 20 and 16: nothing has changed
 pub join-refused : (file : List ℕ) (q : Question) (working out : List ℕ) {number place : ℕ} → askedRoomFault file q (length out) ≡ fault number place → Joins file q working working out out (code.the-variants.Refused number place)
 join-refused file q working out e =
     let first : joinFault file q working out ≡ fault _ _ = room-refuses (askedFault file q) (length out) (halvesFault recordSize (length working) (halvesFor file q)) e in

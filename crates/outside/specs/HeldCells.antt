@@ -40,7 +40,7 @@ numbersIn cells = length cells - behindSize
 
 -- whether undated links are admitted: "a held listing stored before counts as 1"
 abbrev pub undatedIn : List ℕ → ℕ
-undatedIn cells = cond (eqb (length cells) heldSize) (getD cells storedNumbers 0) 1
+undatedIn cells = cond (eqb (length cells) heldSize) (getD cells 7 0) 1
 
 -- the question in the first of them
 abbrev pub askingIn : List ℕ → Question
@@ -63,7 +63,7 @@ pub record MovedCells (file cells cells′ out out′ : List ℕ) (number : ℕ)
   pub answers : number ≡ listedNumber (answerSaid answer)
   pub keeps : cells′ ≡ heldCells cells held
 
--- with so many cells that they are no held listing it answers 2^63 before anything else is looked at, and changes nothing
+-- with any other number of cells it answers 2^63 before anything else is looked at, and changes nothing
 pub record HeldNumber (file cells cells′ out out′ : List ℕ) (number : ℕ) : Type 0 where
   pub wrongSize : heldWhole (length cells) ≡ false → (number ≡ 2 ^ 63) × (cells′ ≡ cells) × (out′ ≡ out)
   pub moved : heldWhole (length cells) ≡ true → MovedCells file cells cells′ out out′ number

@@ -8,8 +8,10 @@ ghost use Prim.Native.Nat.{_≤_};
 ghost use lib.ListN.{length};
 ghost use Rattle.outside.specs.HeldCells.{heldSize, storedSize, heldWhole, undatedIn, heldOf, heldCells};
 
-// The numbers of a question.
+// The numbers of a question, and where the last of them stands.
 const NUMBERS: usize = 8;
+
+const UNDATED: usize = NUMBERS - 1;
 
 // The numbers of one stored before, and what the number that it lacks counts as.
 const STORED_NUMBERS: usize = 7;
@@ -36,7 +38,7 @@ fn undated_in(lent: &[u32]) -> u32
     ensures { λ r. ⌜ r ≡ undatedIn (now (lent .entry)) ⌝ }
 {
     if lent.len() == HELD {
-        return lent[STORED_NUMBERS];
+        return lent[UNDATED];
     }
     STORED_UNDATED
 }

@@ -1,11 +1,12 @@
--- What the eighth number does: with 1 a question is refused, and links are admitted, as before it came; with 0 an admitted link has a day.
+-- What the eighth number does: with 1 a question is refused, and links are admitted, as before it came; with 0 an admitted link has a day. Dated links
+-- are admitted as before with either.
 use mathlib.Core.Path.{_≡_, refl, ap, fun-ext}
 use mathlib.Core.Logic.{_≢_}
 use mathlib.Core.Bool.{Bool, true, false, _&&_, _||_, cond, false≢true}
 use mathlib.Core.List.{List}
 use Prim.Native.Nat.{ℕ}
 use lib.Dec.{eqb}
-use borrow.Author.Tests.{eqb-false}
+use borrow.Author.Tests.{eqb-false, ne-eqb}
 use Rattle.format.specs.Format.{day, kind, linkIn}
 use Rattle.format.specs.Kinds.{classOf}
 use Rattle.format.proofs.Counted.{halves}
@@ -37,6 +38,11 @@ module _ (file : List ℕ) (q : Question) where
       admits = admits-before;
       graph = ap (leads file) (fun-ext admits-before);
     }
+
+  -- a dated link is admitted as before, whatever the number
+  pub dated-as-before : (link : ℕ) → day file link ≢ 0 → admitted file q link ≡ admittedBefore file q link
+  unfolding admitted dayAdmitted
+  dated-as-before link dated = rw (ne-eqb (day file link) 0 dated)
 
   -- with 0 no undated link is admitted
   pub admitted-dated : q .undated ≡ 0 → (link : ℕ) → admitted file q link ≡ true → day file link ≢ 0

@@ -45,13 +45,13 @@ askedFault file q = firstOf (fileFault file) (questionFault (personCount file) q
 abbrev pub askedOfFault : List ℕ → Question → ℕ → Fault
 askedOfFault file q person = firstOf (fileFault file) (personFault (personCount file) q person)
 
+-- the same for so many output cells: 16 comes after the question's refusals
+abbrev pub askedRoomFault : List ℕ → Question → ℕ → Fault
+askedRoomFault file q cells = firstOf (askedFault file q) (roomFault cells sound)
+
 -- the numbers that a question is refused with, in this order, and those of a file and a question
 abbrev pub ownNumbers : List ℕ
 ownNumbers = 10 ∷ 11 ∷ 12 ∷ 13 ∷ 14 ∷ 15 ∷ 20 ∷ []
 
 abbrev pub askedNumbers : List ℕ
 askedNumbers = fileNumbers ++ ownNumbers
-
--- the same for so many output cells: 16 comes after the question's refusals
-abbrev pub askedRoomFault : List ℕ → Question → ℕ → Fault
-askedRoomFault file q cells = firstOf (askedFault file q) (roomFault cells sound)

@@ -1,5 +1,5 @@
--- What the customer's first document says of a question of seven numbers, kept so that what is said now can be laid beside it. None of these looks
--- at the eighth number. Definitions only.
+-- What the customer's first document says of a question of seven numbers, kept so that what is said now can be laid beside it: what is
+-- named Before does not look at the eighth number. Definitions only.
 use mathlib.Core.Path.{_≡_}
 use mathlib.Core.List.{List}
 use mathlib.Core.Bool.{Bool, not, _&&_, _||_}

@@ -64,7 +64,7 @@ use Rattle.held.specs.Holding.{startOf, MovedOn}
 use Rattle.held.specs.Keeping.{RecordsStand, keptBehind}
 use Rattle.held.specs.declared.Held.{Held}
 use Rattle.held.specs.declared.Kept.{Kept}
-use Rattle.held.proofs.Telling.{stored, records-stand, moved-on}
+use Rattle.held.proofs.Telling.{keeping, records-stand, moved-on}
 use Rattle.held.proofs.Lends.{Cells, cells-mach, cells-are, bookmark, bookmark-mach, Bookmark, RecordLent, record-lent, record-back, OutLent, out-lent, out-read}
 use Rattle.held.proofs.Held as T
 use Rattle.held.proofs.Held.Laws as T′
@@ -166,11 +166,11 @@ module _ {M : Type 1} (𝓤 : URA M) (H : Heap 𝓤) (A : Atoms 𝓤) (W : Given
       owned ! u32 (Is u32) (uint-makes 𝓤 H A W w32) (h .started) _ (parts .1 .0) $ fjoin ! $ owned ! P.the-row (Is P.the-row) (EL.makes P.the-type P′.the-plain 𝓤 H A) r _ r-is $
       fjoin ! $ done !
 
-  exits : (r : Answer) (k : Kept) (zs : List ℕ) → length zs ≡ length ys → Is P.the-row r (answer-mach r ∷ []) → MovedOn fs h (stored h k) ys zs r
-      → ent 𝓤 (⋆ 𝓤 H A (‵ (fobs γ (T.the-row .coded .code (stored h k))) ∷ ‵ (fbor κ (Body (mem T.the-row) b o γ)) ∷ ‵ (flft κ q) ∷ ‵ (flft κ₁ q₁) ∷ (‵ (flft κ₂ q₂) ⊛ ‵ ftrue) ∷ ‵ File ∷ ‵ (finally u32 γ₂ zs) ∷ [])) (Post (answer-mach r))
+  exits : (r : Answer) (k : Kept) (zs : List ℕ) → length zs ≡ length ys → Is P.the-row r (answer-mach r ∷ []) → MovedOn fs h (keeping h k) ys zs r
+      → ent 𝓤 (⋆ 𝓤 H A (‵ (fobs γ (T.the-row .coded .code (keeping h k))) ∷ ‵ (fbor κ (Body (mem T.the-row) b o γ)) ∷ ‵ (flft κ q) ∷ ‵ (flft κ₁ q₁) ∷ (‵ (flft κ₂ q₂) ⊛ ‵ ftrue) ∷ ‵ File ∷ ‵ (finally u32 γ₂ zs) ∷ [])) (Post (answer-mach r))
   exits r k zs l r-is moved =
-      qed W (‵ (fobs γ (T.the-row .coded .code (stored h k))) ∷ ‵ (fbor κ (Body (mem T.the-row) b o γ)) ∷ ‵ (flft κ q) ∷ ‵ (flft κ₁ q₁) ∷ (‵ (flft κ₂ q₂) ⊛ ‵ ftrue) ∷ ‵ File ∷ ‵ (finally u32 γ₂ zs) ∷ []) ∵
-      suffices ! _ (ends-at 𝓤 H A advance.ended stayed (advance.clauses 𝓤 H A at-mem run) W (((κ, (κ₁, (κ₂, tt))), (q, (q₁, (q₂, tt))), tt, a, vals), tt) (answer-mach r) r (stored h k, (tt, (zs, tt))) (tt, (tt, (l, tt)))) $
+      qed W (‵ (fobs γ (T.the-row .coded .code (keeping h k))) ∷ ‵ (fbor κ (Body (mem T.the-row) b o γ)) ∷ ‵ (flft κ q) ∷ ‵ (flft κ₁ q₁) ∷ (‵ (flft κ₂ q₂) ⊛ ‵ ftrue) ∷ ‵ File ∷ ‵ (finally u32 γ₂ zs) ∷ []) ∵
+      suffices ! _ (ends-at 𝓤 H A advance.ended stayed (advance.clauses 𝓤 H A at-mem run) W (((κ, (κ₁, (κ₂, tt))), (q, (q₁, (q₂, tt))), tt, a, vals), tt) (answer-mach r) r (keeping h k, (tt, (zs, tt))) (tt, (tt, (l, tt)))) $
       says ! moved $ move ! (3 ∷ 4 ∷ []) $ join ! $ move ! (3 ∷ 0 ∷ []) $ join ! $ frame ! $ nothing ! $ move ! (4 ∷ 0 ∷ []) $ fjoin ! $ move ! (3 ∷ 0 ∷ []) $ fjoin ! $
       move ! (1 ∷ 2 ∷ []) $ feqI ! (List Val) (vptr b o ∷ []) (vptr b o ∷ []) refl $ fjoin3 ! $ fjoin ! $ frame ! $
       owned ! P.the-row (Is P.the-row) (EL.makes P.the-type P′.the-plain 𝓤 H A) r _ r-is $ done !
@@ -231,7 +231,7 @@ module _ {M : Type 1} (𝓤 : URA M) (H : Heap 𝓤) (A : Atoms 𝓤) (W : Given
         pick ! (λ _. split ! $ move ! (1 ∷ []) $ heard ! (k ≡ keptBehind (countOf (answerSaid r)) (h .started) (h .«record») zs) (λ e. move ! (1 ∷ []) $ split ! $ move ! (1 ∷ []) $
         facts ! K.the-row (Is K.the-row) (shows 𝓤 H A K.the-row) k (u ∷ []) (λ k-is.
         let kept-parts = LL.owed K.the-type K′.the-laws k _ k-is in
-        let is′ = LL.owes T.the-type T′.the-laws (stored h k) (parts .0, (kept-parts .0, (kept-parts .1 .0, tt))) in
+        let is′ = LL.owes T.the-type T′.the-laws (keeping h k) (parts .0, (kept-parts .0, (kept-parts .1 .0, tt))) in
         land ! (from ! (stop !)) (init ! 31 refl (LL.lawful K.the-type K′.the-laws 𝓤 H A W .typed k _ k-is .0)) $
         rewrite ! 31 (λ (t : Val). ‵ (fat fullShare K′.mir l₅ 0 t)) (ap only (K′.lowers .val-is k (u ∷ []) k-is)) refl $
         -- [the token κ₂; …; the last list; …; the struct's cell; the token κ₁; …; …; …; the file's; the open borrow; obs; auth; _14; …]
@@ -239,15 +239,15 @@ module _ {M : Type 1} (𝓤 : URA M) (H : Heap 𝓤) (A : Atoms 𝓤) (W : Given
         assigns ! (of-opd ! (load ! (from ! (fld ! refl (stop !))) (look-in ! 31 (sub ! 1 refl (whole !))))) (from ! (hop ! (look ! 39 refl) (fld ! refl (stop !)))) (store-in ! 4 (sub ! 2 refl (whole !)) (K′.the-laws .1 .0 .lawful 𝓤 H A W .typed (k .«record») _ (cells-are (k .«record») (kept-parts .1 .0)) .0)) $
         assigns ! (of-opd ! (load ! (from ! (stop !)) (look ! 33 refl))) (from ! (stop !)) (init ! 41 refl (EL.lawful P.the-type P′.the-laws 𝓤 H A W tt .typed r _ r-is .0)) $
         -- the borrow is closed at the new struct
-        owned ! T.the-row (Is T.the-row) (LL.makes T.the-type T′.the-plain 𝓤 H A) (stored h k) (T′.lowered (stored h k) ∷ []) (subst (Is T.the-row (stored h k)) (T′.lowers .val-is (stored h k) _ is′) is′) $
-        move ! (5 ∷ []) $ use1 W (‵ (cellAt fullShare (T.the-row .mir) (T′.lowered (stored h k) ∷ []) b o)) (W .laws .at-raw fullShare T′.mir b o (T′.lowered (stored h k))) $
-        move ! (0 ∷ 1 ∷ 11 ∷ 12 ∷ 13 ∷ []) $ closes ! tt T.the-row (stored h k) (T′.lowered (stored h k) ∷ []) b o $ returns ! (look ! 40 refl) $ forget ! 40 refl $ forget ! 38 refl $
+        owned ! T.the-row (Is T.the-row) (LL.makes T.the-type T′.the-plain 𝓤 H A) (keeping h k) (T′.lowered (keeping h k) ∷ []) (subst (Is T.the-row (keeping h k)) (T′.lowers .val-is (keeping h k) _ is′) is′) $
+        move ! (5 ∷ []) $ use1 W (‵ (cellAt fullShare (T.the-row .mir) (T′.lowered (keeping h k) ∷ []) b o)) (W .laws .at-raw fullShare T′.mir b o (T′.lowered (keeping h k))) $
+        move ! (0 ∷ 1 ∷ 11 ∷ 12 ∷ 13 ∷ []) $ closes ! tt T.the-row (keeping h k) (T′.lowered (keeping h k) ∷ []) b o $ returns ! (look ! 40 refl) $ forget ! 40 refl $ forget ! 38 refl $
         forget ! 36 refl $ forget ! 34 refl $ forget ! 32 refl $ forget ! 30 refl $ forget ! 28 refl $ forget ! 26 refl $ forget ! 24 refl $ forget ! 22 refl $ forget ! 20 refl $
         forget ! 18 refl $ forget ! 16 refl $ forget ! 14 refl $ forget ! 12 refl $ move ! (40 ∷ 41 ∷ []) $ free1 ! $ move ! (38 ∷ 39 ∷ []) $ free1 ! $ move ! (36 ∷ 37 ∷ []) $
         free1 ! $ move ! (34 ∷ 35 ∷ []) $ free1 ! $ move ! (32 ∷ 33 ∷ []) $ free1 ! $ move ! (30 ∷ 31 ∷ []) $ free1 ! $ move ! (28 ∷ 29 ∷ []) $ free1 ! $ move ! (26 ∷ 27 ∷ []) $
         free1 ! $ move ! (24 ∷ 25 ∷ []) $ free1 ! $ move ! (22 ∷ 23 ∷ []) $ free1 ! $ move ! (20 ∷ 21 ∷ []) $ free1 ! $ move ! (18 ∷ 19 ∷ []) $ free1 ! $ move ! (16 ∷ 17 ∷ []) $
         free1 ! $ move ! (14 ∷ 15 ∷ []) $ free1 ! $ move ! (12 ∷ 13 ∷ []) $ free1 ! $ free0 ! $ keep ! (0 ∷ 1 ∷ 2 ∷ 7 ∷ 3 ∷ 11 ∷ 5 ∷ []) $
-        by ! (exits r k zs l r-is (subst (λ (c : Kept). MovedOn fs h (stored h c) ys zs r) (sym e) (moved-on fs h p))))))))))))))))))))))))))))))))))))
+        by ! (exits r k zs l r-is (subst (λ (c : Kept). MovedOn fs h (keeping h c) ys zs r) (sym e) (moved-on fs h p))))))))))))))))))))))))))))))))))))
 
 module _ {M : Type 1} (𝓤 : URA M) (H : Heap 𝓤) (A : Atoms 𝓤) (W : Given 𝓤 H A) (at-mem : Memory → SProp 𝓤) (run : Routine → Fun 𝓤) where
   advance-walks : (C : Calls 𝓤 H) (Λ : Loops 𝓤 H) → FmC 𝓤 H (W .laws) C → Triple 𝓤 (C #portion·portion) (PortionC 𝓤 H A at-mem run) → Triple 𝓤 (C #held·to-keep) (ToKeepC 𝓤 H A at-mem run)
