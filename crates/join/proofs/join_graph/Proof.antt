@@ -1,7 +1,7 @@
 -- The half chains are counted, then written, and the chains gathered: each call gives what the next one asks.
 use borrow.Author.Needs.{needs}
 use mathlib.Core.Path.{refl, _∙_}
-use Rattle.join.proofs.Face.{graph-shelve, graph-refused, graph-gather, graph-joined}
+use Rattle.join.proofs.OverGraph.{graph-shelve, graph-refused, graph-gather, graph-joined}
 use Rattle.join.proofs.join_graph.Statement.{statement}
 use Rattle.join.proofs.join_graph.Tie as tie
 
