@@ -1,4 +1,4 @@
--- `listing` holds every chain and nothing else.
+-- `listing` holds every chain and nothing else; and where From is To, every way back to that person.
 use mathlib.Core.Path.{_≡_, refl, sym, ap, subst, _∙_}
 use mathlib.Core.Logic.{_≢_, _↔_, _⊎_, inl, inr}
 use mathlib.Core.List.{List, [], _∷_, _++_, List·Memᴰ·head, List·Memᴰ·tail, List·Memᴰ·not-nil, List·Memᴰ·cases-cons, List·Memᴰ·eq-of-singleton, Memᴰ·map, Memᴰ·of-map, Memᴰ·cast}
@@ -6,18 +6,18 @@ use Prim.Native.Nat.{ℕ, zero, suc, _≤_}
 use native.Mathlib.Omega.{arith}
 use lib.ListN.{length, getD}
 use Rattle.ways.specs.Graph.{Graph, _∈_}
-use Rattle.ways.specs.Chain.{Last, Linked, Distinct, Chain, hops}
+use Rattle.ways.specs.Chain.{First, Last, Linked, Distinct, behind, hops, Chain}
 use Rattle.ways.specs.Listing.{ways, listing}
 use Rattle.ways.proofs.Members.{out}
 use Rattle.ways.proofs.Cut.{last-right, distinct-apart}
 use Rattle.ways.proofs.Way.{Way, ends, goes, way-in, way-from}
 
--- a chain from p on, without p, that passes nobody seen
+-- a chain from p on, without p, that passes nobody seen but perhaps t
 pub record Rest (g : Graph) (t k : ℕ) (seen : List ℕ) (p : ℕ) (w : List ℕ) : Type 0 where
   pub linked : Linked g (p ∷ w)
   pub last : Last t w
   pub once : Distinct w
-  pub apart : (x : ℕ) → x ∈ w → ¬ (x ∈ seen)
+  pub apart : (x : ℕ) → x ∈ w → x ≢ t → ¬ (x ∈ seen)
   pub few : length w ≤ k
 
 -- the last of w is the last of v ∷ w, and stands in w
@@ -45,11 +45,11 @@ pub way-last : {g : Graph} {t k p : ℕ} {seen w : List ℕ} → Way g t k seen 
 way-last (ends m e) = e
 way-last {t = t} (goes {v = v} {w = w} m n o r) = last-cons t v w (way-last r)
 
-pub way-rest : {g : Graph} {t k p : ℕ} {seen w : List ℕ} → Way g t k seen p w → ¬ (t ∈ seen) → Rest g t k seen p w
-way-rest {t = t} (ends {k = k} {v = v} {seen = seen} m e) o = record { linked = (m, tt); last = e; once = (List·Memᴰ·not-nil, tt); apart = λ x i j. o (Memᴰ·cast (sym (List·Memᴰ·eq-of-singleton i ∙ e)) j); few = omega arith }
-way-rest {t = t} (goes {v = v} {seen = seen} {w = w} m n o r) i =
-    let h = way-rest r (out (λ e. n (sym e)) i) in
-    record { linked = (m, h .linked); last = last-cons t v w (h .last); once = (λ j. h .apart v j (List·Memᴰ·head refl), h .once); apart = λ x a. apart x (h .apart x) (List·Memᴰ·cases-cons a); few = omega arith }
+pub way-rest : {g : Graph} {t k p : ℕ} {seen w : List ℕ} → Way g t k seen p w → Rest g t k seen p w
+way-rest (ends m e) = record { linked = (m, tt); last = e; once = (List·Memᴰ·not-nil, tt); apart = λ x i n. absurd (n (List·Memᴰ·eq-of-singleton i ∙ e)); few = omega arith }
+way-rest {t = t} (goes {v = v} {seen = seen} {w = w} m n o r) =
+    let h = way-rest r in
+    record { linked = (m, h .linked); last = last-cons t v w (h .last); once = (λ j. h .apart v j n (List·Memᴰ·head refl), h .once); apart = λ x a i. apart x (λ b. h .apart x b i) (List·Memᴰ·cases-cons a); few = omega arith }
   where
     apart : (x : ℕ) → (x ∈ w → ¬ (x ∈ v ∷ seen)) → (x ≡ v) ⊎ (x ∈ w) → ¬ (x ∈ seen)
     apart x f (inl e) j = o (Memᴰ·cast (sym e) j)
@@ -60,27 +60,56 @@ rest-way k p seen [] r = absurd (r .last)
 rest-way zero p seen (v ∷ w) r = absurd (omega arith)
 rest-way (suc k) p seen (v ∷ []) r = ends (r .linked .0) (r .last)
 rest-way {t = t} (suc k) p seen (v ∷ q ∷ w) r =
-    goes (r .linked .0) (λ e. r .once .0 (Memᴰ·cast e (last-in (q ∷ w) (r .last)))) (r .apart v (List·Memᴰ·head refl))
+    goes (r .linked .0) other (r .apart v (List·Memᴰ·head refl) other)
     (rest-way k v (v ∷ seen) (q ∷ w)
-    (record { linked = r .linked .1; last = r .last; once = r .once .1; apart = λ x a. out (λ e. r .once .0 (Memᴰ·cast (sym e) a)) (r .apart x (List·Memᴰ·tail a)); few = omega arith }))
+    (record { linked = r .linked .1; last = r .last; once = r .once .1; apart = λ x a n. out (λ e. r .once .0 (Memᴰ·cast (sym e) a)) (r .apart x (List·Memᴰ·tail a) n); few = omega arith }))
+  where
+    other : v ≢ t
+    other e = r .once .0 (Memᴰ·cast e (last-in (q ∷ w) (r .last)))
+
+-- what stands in `listing`, whether From is To or not: nobody behind the first comes twice, and the first comes again only where it is To
+pub record Passing (g : Graph) (s t k : ℕ) (c : List ℕ) : Type 0 where
+  pub first : First s c
+  pub last : Last t (behind c)
+  pub linked : Linked g c
+  pub once : Distinct (behind c)
+  pub apart : s ≢ t → ¬ (s ∈ behind c)
+  pub few : hops c ≤ k
+
+pub listed : (g : Graph) (s t k : ℕ) (c : List ℕ) → c ∈ listing g s t k ↔ Passing g s t k c
+unfolding listing
+listed g s t k c = (λ m. to (Memᴰ·of-map (_∷_ s) (ways g t k (s ∷ []) s) m), from c)
+  where
+    to : (w : List ℕ) × (w ∈ ways g t k (s ∷ []) s) × (s ∷ w ≡ c) → Passing g s t k c
+    to r =
+        let h = way-rest (way-from g t k s (s ∷ []) (r .1)) in
+        subst (λ c. Passing g s t k c) (r .2) (record { first = refl; last = h .last; linked = h .linked; once = h .once; apart = λ n a. h .apart s a n (List·Memᴰ·head refl); few = h .few })
+
+    from : (c : List ℕ) → Passing g s t k c → c ∈ listing g s t k
+    from [] h = absurd (h .first)
+    from (p ∷ w) h =
+        Memᴰ·cast (ap (λ x. x ∷ w) (h .first)) (Memᴰ·map (_∷_ s) (way-in (rest-way k s (s ∷ []) w
+        (record { linked = subst (λ x. Linked g (x ∷ w)) (h .first) (h .linked); last = h .last; once = h .once; apart = λ x a n j. let e = List·Memᴰ·eq-of-singleton j in h .apart (λ i. n (e ∙ i)) (Memᴰ·cast (sym e) a); few = h .few }))))
+
+-- where From is not To, these are the chains
+passing-chain : (g : Graph) (s t k : ℕ) → s ≢ t → (c : List ℕ) → Passing g s t k c ↔ Chain g s t k c
+passing-chain g s t k ne c = (to c, from c)
+  where
+    to : (c : List ℕ) → Passing g s t k c → Chain g s t k c
+    to [] h = absurd (h .first)
+    to (p ∷ w) h = record { first = h .first; last = last-cons t p w (h .last); linked = h .linked; once = (λ a. h .apart ne (Memᴰ·cast (sym (h .first)) a), h .once); some = last-some t w (h .last); few = h .few }
+
+    from : (c : List ℕ) → Chain g s t k c → Passing g s t k c
+    from [] h = absurd (h .first)
+    from (p ∷ []) h = absurd (omega arith)
+    from (p ∷ q ∷ w) h = record { first = h .first; last = h .last; linked = h .linked; once = h .once .1; apart = λ n a. h .once .0 (Memᴰ·cast (h .first) a); few = h .few }
 
 -- exact: in the listing if and only if a chain
 pub exact : (g : Graph) (s t k : ℕ) → s ≢ t → (c : List ℕ) → c ∈ listing g s t k ↔ Chain g s t k c
-unfolding listing
-exact g s t k ne c = (λ m. to (Memᴰ·of-map (_∷_ s) (ways g t k (s ∷ []) s) m), from c)
-  where
-    to : (w : List ℕ) × (w ∈ ways g t k (s ∷ []) s) × (s ∷ w ≡ c) → Chain g s t k c
-    to r =
-        let w = r .0 in
-        let h = way-rest (way-from g t k s (s ∷ []) (r .1)) (out (λ e. ne (sym e)) List·Memᴰ·not-nil) in
-        subst (λ c. Chain g s t k c) (r .2) (record { first = refl; last = last-cons t s w (h .last); linked = h .linked; once = (λ a. h .apart s a (List·Memᴰ·head refl), h .once); some = last-some t w (h .last); few = omega (arith, h .few) })
-
-    from : (c : List ℕ) → Chain g s t k c → c ∈ listing g s t k
-    from [] h = absurd (h .first)
-    from (p ∷ []) h = absurd (omega arith)
-    from (p ∷ q ∷ w) h =
-        Memᴰ·cast (ap (λ x. x ∷ q ∷ w) (h .first)) (Memᴰ·map (_∷_ s) (way-in (rest-way k s (s ∷ []) (q ∷ w)
-        (record { linked = (subst (λ x. q ∈ g x) (h .first) (h .linked .0), h .linked .1); last = h .last; once = h .once .1; apart = λ x a j. h .once .0 (Memᴰ·cast (h .first ∙ sym (List·Memᴰ·eq-of-singleton j)) a); few = h .few }))))
+exact g s t k ne c =
+    let l = listed g s t k c in
+    let e = passing-chain g s t k ne c in
+    ((λ m. e .0 (l .0 m)), (λ h. l .1 (e .1 h)))
 
 -- no person has a chain to the same person
 pub no-chain : (g : Graph) (s k : ℕ) (c : List ℕ) → ¬ Chain g s s k c

@@ -15,7 +15,7 @@ use Rattle.ways.specs.Chain.{hops, Chain}
 use Rattle.ways.specs.Listing.{ways, listing}
 use Rattle.ways.specs.Records.{recordOf, chainOf, Fits, Shaped, cellsOf, roomOf, written, sameCells, isRecordIn}
 use Rattle.ways.proofs.Way.{Way, ends, goes, way-from}
-use Rattle.ways.proofs.Listed.{exact}
+use Rattle.ways.proofs.Listed.{Passing, listed, exact}
 
 -- ways and chains fit
 pub length-hops : (c : List ℕ) → 1 ≤ length c → suc (hops c) ≡ length c
@@ -172,7 +172,14 @@ isRecordIn-iff size L cells f = (λ e. to (isRecordIn-true size L cells e), λ r
         let h = f (r .0) (r .1) in
         (subst (λ d. Shaped size d) (sym (r .2)) (shaped-recordOf size (r .0) h), Memᴰ·cast (ap chainOf (r .2) ∙ chainOf-recordOf size (r .0) (h .some)) (r .1))
 
--- a bookmark is refused by 17's rule only: it is the record of a chain, or it is not
+-- a bookmark is refused by 17's rule only: it is the record of what stands in the listing, or it is not
+pub isRecordIn-listed : (g : Graph) (s t k size : ℕ) → k + 2 ≤ size → (cells : List ℕ) → (isRecordIn size (listing g s t k) cells ≡ true) ↔ (Shaped size cells × Passing g s t k (chainOf cells))
+isRecordIn-listed g s t k size h cells =
+    let r = isRecordIn-iff size (listing g s t k) cells (listing-fits g s t k size h) in
+    let e = listed g s t k (chainOf cells) in
+    ((λ i. let q = r .0 i in (q .0, e .0 (q .1))), (λ q. r .1 (q .0, e .1 (q .1))))
+
+-- so, where From is not To, the record of a chain
 pub isRecordIn-chain : (g : Graph) (s t k size : ℕ) → s ≢ t → k + 2 ≤ size → (cells : List ℕ) → (isRecordIn size (listing g s t k) cells ≡ true) ↔ (Shaped size cells × Chain g s t k (chainOf cells))
 isRecordIn-chain g s t k size ne h cells =
     let r = isRecordIn-iff size (listing g s t k) cells (listing-fits g s t k size h) in

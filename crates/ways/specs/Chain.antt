@@ -28,6 +28,11 @@ abbrev pub Distinct : {A : Type 0} → List A → Type 0
 Distinct [] = Unit {0}
 Distinct (p ∷ c) = ¬ (p ∈ c) × Distinct c
 
+-- the persons behind the first
+abbrev pub behind : List ℕ → List ℕ
+behind [] = []
+behind (p ∷ c) = c
+
 -- the hops: one fewer than the persons
 abbrev pub hops : List ℕ → ℕ
 hops [] = 0
