@@ -22,7 +22,7 @@ use Rattle.question.proofs.Leads.{next-led, led-next}
 use Rattle.portion.specs.Listing.{listingFor, Portioned}
 use Rattle.listing.specs.Portions.{fresh}
 use Rattle.refusals.specs.declared.Answer.{Answer}
-use Rattle.question.proofs.Answerable.{asked-answerable}
+use Rattle.question.proofs.Answerable.{asked-answerable, asked-differ}
 use Rattle.portion.proofs.Instance.{rows, fresh-chains, chains-listing}
 use Rattle.listing.proofs.Known.{passes}
 use Rattle.join.specs.Lists.{halvesFor, joinFault}
@@ -66,7 +66,7 @@ module _ (file : List ℕ) (q : Question) where
 
   module _ (asked : askedFault file q ≡ sound) where
     differ : q .from ≢ q .to
-    differ = asked-answerable file q asked .proper .differ
+    differ = asked-differ file q asked
 
     is-chain : (c : List ℕ) → c ∈ listingFor file q ↔ Chain (next file q) (q .from) (q .to) (q .hops) c
     is-chain = exact (next file q) (q .from) (q .to) (q .hops) differ

@@ -18,22 +18,26 @@ use Rattle.ways.specs.Sizes.{recordSize}
 use Rattle.ways.proofs.Cases.{lt-or-le}
 use Rattle.compact.specs.Compact.{graphOf}
 use Rattle.question.specs.declared.Question.{Question}
+use Rattle.question.specs.declared.Wanted as wanted
 use Rattle.question.specs.Asked.{askedFault, askedRoomFault}
 use Rattle.question.specs.Filled.{Filled}
-use Rattle.question.proofs.Answerable.{Answerable, asked-answerable}
+use Rattle.question.proofs.Answerable.{Answerable, asked-answerable, asked-differ}
 use Rattle.question.proofs.Leads.{next-none}
 use Rattle.join.specs.Lists.{halvesFor, chainsFor, halvesFault, joinFault}
 use Rattle.join.specs.Answers.{Answered, Joins, Passed, halvesIn, JoinsIn}
 
 -- 1 to 15, 20 and 16: nothing has changed
-pub join-refused : (file : List ℕ) (q : Question) (working out : List ℕ) {number place : ℕ} → askedRoomFault file q (length out) ≡ fault number place → Joins file q working working out out (code.the-variants.Refused number place)
+pub join-refused : (file : List ℕ) (q : Question) (working out : List ℕ) {number place : ℕ} → askedRoomFault wanted.the-variants.Chains file q (length out) ≡ fault number place → Joins file q working working out out (code.the-variants.Refused number place)
 join-refused file q working out e =
     let first : joinFault file q working out ≡ fault _ _ = room-refuses (askedFault file q) (length out) (halvesFault recordSize (length working) (halvesFor file q)) e in
     record { answers = rw first; shelf = rw first; cells = rw first }
 
-module _ (file : List ℕ) (q : Question) (out : List ℕ) (passed : askedRoomFault file q (length out) ≡ sound) where
+module _ (file : List ℕ) (q : Question) (out : List ℕ) (passed : askedRoomFault wanted.the-variants.Chains file q (length out) ≡ sound) where
+  sound-asked : askedFault file q ≡ sound
+  sound-asked = room-passes (askedFault file q) (length out) passed .0
+
   pub join-asked : Answerable file q
-  join-asked = asked-answerable file q (room-passes (askedFault file q) (length out) passed .0)
+  join-asked = asked-answerable file q sound-asked
 
   module _ {rows targets : List ℕ} (f : Filled file q rows targets) {counts : Counts} (laid : Laid file counts) where
     -- whoever is no person of the file has no links
@@ -43,7 +47,7 @@ module _ (file : List ℕ) (q : Question) (out : List ℕ) (passed : askedRoomFa
     pub join-passed : Passed rows targets (counts .persons) (q .from) (q .to) (q .hops)
     join-passed =
         let p = join-asked .proper in
-        record { graph = f .compact; known = laid .manyPersons; low = low; source = omega (arith, p .from, laid .persons); target = omega (arith, p .to, laid .persons); differ = p .differ; few = p .most }
+        record { graph = f .compact; known = laid .manyPersons; low = low; source = omega (arith, p .from, laid .persons); target = omega (arith, p .to, laid .persons); differ = asked-differ file q sound-asked; few = p .most }
 
     same-halves : halvesIn rows targets (counts .persons) (q .from) (q .to) (q .hops) ≡ halvesFor file q
     same-halves = ap (λ (n : ℕ). halves (graphOf rows targets) n (q .from) (q .to) (q .hops)) (laid .persons) ∙ ap (λ (g : Graph). halves g (personCount file) (q .from) (q .to) (q .hops)) (fun-ext (f .graph))

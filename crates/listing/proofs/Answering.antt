@@ -42,3 +42,7 @@ refused-first {first} {chains} {start} {out} e = portion-refused (room-refuses f
 pub start-left : {first : Fault} (chains : List (List ℕ)) (start : Start) (out : List ℕ) → first ≡ sound → recordSize ≤ length out → refusalOf first chains start out ≡ startFault chains start
 unfolding refusalOf
 start-left chains start out none h = room-left (length out) (startFault chains start) none h
+
+-- and what is then promised is promised of the whole
+pub nothing-first : {first : Fault} {chains : List (List ℕ)} {start : Start} {out out′ : List ℕ} {answer : code.Answer} → first ≡ sound → PortionOf sound chains start out out′ answer → PortionOf first chains start out out′ answer
+nothing-first none p = rw none p

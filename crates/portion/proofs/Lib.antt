@@ -1,5 +1,2 @@
--- Laws of this room: the chains from From to To are a listing, the test of a bookmark, and where a portion starts.
-pub mod Bookmarks
-pub mod Cells
-pub mod Starting
+-- Laws of this room: the chains from From to To are a listing.
 pub mod Instance

@@ -1,8 +1,8 @@
 -- Going through cells one by one: what is still to come decides the whole.
 use mathlib.Core.Path.{_≡_, _∙_}
-use mathlib.Core.Bool.{true, false, not, _&&_}
+use mathlib.Core.Bool.{true, false, not, _&&_, _||_}
 use mathlib.Core.List.{List, [], _∷_}
-use Prim.Native.Nat.{ℕ, suc, _+_, _<_}
+use Prim.Native.Nat.{ℕ, suc, _+_, _≤_, _<_}
 use native.Mathlib.Numerals.{add-one}
 use native.Mathlib.Omega.{arith}
 use lib.ListN.{length, getD, drop}
@@ -10,7 +10,7 @@ use lib.Seq.{slice, slice-empty, slice-cons, drop-cons, drop-length}
 use lib.Dec.{eqb}
 use borrow.Author.Tests.{eq-eqb, ne-eqb}
 use Rattle.ways.specs.Graph.{Graph, among}
-use Rattle.portion.specs.Bookmark.{runs, zeros}
+use Rattle.starting.specs.Bookmark.{runs, leadsOn, zeros}
 
 -- the persons run on from `at` to `last`
 module _ (g : Graph) (t : ℕ) (cells : List ℕ) (last : ℕ) (fits : last < length cells) where
@@ -26,6 +26,14 @@ module _ (g : Graph) (t : ℕ) (cells : List ℕ) (last : ℕ) (fits : last < le
   unfolding runs
   run-last =
       let here : slice last (last + 1) cells ≡ getD cells last 0 ∷ [] = slice-cons last (last + 1) cells 0 (omega arith) (omega arith) ∙ rw (add-one last, slice-empty (suc last) cells) in
+      rw here
+
+  -- From leads on by them
+  pub on-cells : (s : ℕ) → 2 ≤ last
+      → leadsOn g s t (slice 2 (last + 1) cells) ≡ (among (getD cells 2 0) (g s) && (eqb s t || not (among s (slice 2 (last + 1) cells))) && runs g t (slice 2 (last + 1) cells))
+  unfolding leadsOn
+  on-cells s h =
+      let here : slice 2 (last + 1) cells ≡ getD cells 2 0 ∷ slice 3 (last + 1) cells = slice-cons 2 (last + 1) cells 0 (omega arith) (omega arith) in
       rw here
 
 -- zeros from `at` on

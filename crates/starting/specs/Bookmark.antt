@@ -1,7 +1,7 @@
 -- A bookmark as it is tested: cell by cell, with no listing. Definitions only.
--- That the test says just whether the cells are the record of a chain of the listing is the law `bookmark-is`.
+-- That the test says just whether the cells are the record of one that is listed, chain or ring, is the law `bookmark-is`.
 use mathlib.Core.List.{List, [], _∷_}
-use mathlib.Core.Bool.{Bool, true, false, _&&_, not, cond}
+use mathlib.Core.Bool.{Bool, true, false, _&&_, _||_, not, cond}
 use Prim.Native.Nat.{ℕ, _+_}
 use lib.ListN.{length, getD, drop}
 use lib.Seq.{slice}
@@ -17,18 +17,23 @@ runs g t [] = false
 runs g t (p ∷ []) = eqb p t
 runs g t (p ∷ q ∷ c) = among q (g p) && not (among p (q ∷ c)) && runs g t (q ∷ c)
 
+-- a link of From leads to the first of them, they run on to To, and From comes again only where From is To
+unfoldable pub leadsOn : Graph → ℕ → ℕ → List ℕ → Bool
+leadsOn g s t [] = false
+leadsOn g s t (q ∷ c) = among q (g s) && (eqb s t || not (among s (q ∷ c))) && runs g t (q ∷ c)
+
 -- there is nothing but zeros
 unfoldable pub zeros : List ℕ → Bool
 zeros [] = true
 zeros (x ∷ cells) = eqb x 0 && zeros cells
 
--- exactly so many cells; 1 to k hops; From first; the persons run to To; zeros behind them
+-- exactly so many cells; 1 to k hops; From first; who follows leads on to To; zeros behind them
 unfoldable pub isBookmark : ℕ → Graph → ℕ → ℕ → ℕ → List ℕ → Bool
 isBookmark size g s t k cells =
     eqb (length cells) size
     && within 1 k (getD cells 0 0)
     && eqb (getD cells 1 0) s
-    && runs g t (slice 1 (getD cells 0 0 + 2) cells)
+    && leadsOn g s t (slice 2 (getD cells 0 0 + 2) cells)
     && zeros (drop (getD cells 0 0 + 2) cells)
 
 -- a portion may start afresh, or after a bookmark

@@ -1,4 +1,4 @@
-// Whether a bookmark is the record of a chain, cell by cell.
+// Whether a bookmark is the record of a chain or, where From is To, of a ring, cell by cell.
 use compact::LINKS;
 use compact::PERSONS;
 use compact::STARTS;
@@ -11,7 +11,7 @@ ghost use lib.Seq.{slice};
 ghost use Rattle.ways.specs.Graph.{among};
 ghost use Rattle.ways.specs.Sizes.{recordSize, mostHops};
 ghost use Rattle.compact.specs.Compact.{graphOf, Compact};
-ghost use Rattle.portion.specs.Bookmark.{runs, zeros, isBookmark, startFits};
+ghost use Rattle.starting.specs.Bookmark.{runs, leadsOn, zeros, isBookmark, startFits};
 
 // Whether a link leads from a person to the next.
 fn leads(starts: &[u16; STARTS], targets: &[u16; LINKS], person: u32, next: u32) -> bool
@@ -33,12 +33,12 @@ fn leads(starts: &[u16; STARTS], targets: &[u16; LINKS], person: u32, next: u32)
     false
 }
 
-// Whether the cells from 1 up to `last` run from person to person by links, nobody twice, to the end person.
+// Whether the cells from 2 up to `last` run from person to person by links, nobody twice, to the end person.
 fn run(starts: &[u16; STARTS], targets: &[u16; LINKS], cells: &[u32], last: usize, to: u32) -> bool
-    requires { ⌜ (Compact (now starts) (now targets)) × (1 ≤ last) × (last < length (now cells)) ⌝ }
-    ensures { λ r. ⌜ r ≡ runs (graphOf (now (starts .entry)) (now (targets .entry))) to (slice 1 (last + 1) (now (cells .entry))) ⌝ }
+    requires { ⌜ (Compact (now starts) (now targets)) × (2 ≤ last) × (last < length (now cells)) ⌝ }
+    ensures { λ r. ⌜ r ≡ runs (graphOf (now (starts .entry)) (now (targets .entry))) to (slice 2 (last + 1) (now (cells .entry))) ⌝ }
 {
-    let mut at = 1;
+    let mut at = 2;
     while at < last {
         let person = cells[at];
         if !leads(starts, targets, person, cells[at + 1])
@@ -49,6 +49,27 @@ fn run(starts: &[u16; STARTS], targets: &[u16; LINKS], cells: &[u32], last: usiz
         at += 1;
     }
     cells[last] == to
+}
+
+// Whether From leads on by the cells from 2 up to `last` to To, and comes again only where From is To.
+fn leads_on(
+    starts: &[u16; STARTS],
+    targets: &[u16; LINKS],
+    from: u32,
+    to: u32,
+    cells: &[u32],
+    last: usize,
+) -> bool
+    requires { ⌜ (Compact (now starts) (now targets)) × (2 ≤ last) × (last < length (now cells)) ⌝ }
+    ensures { λ r. ⌜ r ≡ leadsOn (graphOf (now (starts .entry)) (now (targets .entry))) from to (slice 2 (last + 1) (now (cells .entry))) ⌝ }
+{
+    if !leads(starts, targets, from, cells[2]) {
+        return false;
+    }
+    if from != to && cells::stands(cells, 2, last + 1, from) {
+        return false;
+    }
+    run(starts, targets, cells, last, to)
 }
 
 // Whether there is nothing but zeros from a cell on.
@@ -66,8 +87,8 @@ fn blank(cells: &[u32], first: usize) -> bool
     true
 }
 
-// Whether the cells are the record of a chain from `from` to `to` of at most `hops` hops.
-pub fn is_chain(
+// Whether the cells are the record of a chain from `from` to `to` of at most `hops` hops, or of a ring where these are one person.
+fn is_bookmark(
     starts: &[u16; STARTS],
     targets: &[u16; LINKS],
     from: u32,
@@ -84,11 +105,11 @@ pub fn is_chain(
     let last = cells[0] as usize + 1;
     format::numbers::within(1, hops, cells[0])
         && cells[1] == from
-        && run(starts, targets, cells, last, to)
+        && leads_on(starts, targets, from, to, cells, last)
         && blank(cells, last + 1)
 }
 
-// Whether a portion may start here: a fresh start may, and a bookmark that is the record of a chain.
+// Whether a portion may start here: a fresh start may, and a bookmark that is such a record.
 pub fn fits(
     starts: &[u16; STARTS],
     targets: &[u16; LINKS],
@@ -102,7 +123,7 @@ pub fn fits(
     if started == 0 {
         return true;
     }
-    is_chain(
+    is_bookmark(
         starts,
         targets,
         question.from,

@@ -1,23 +1,23 @@
--- `listed` meets its contract: the graph is the question's, the table is exact, and so the search's answer is the portion.
+-- `list` meets its contract: the graph is the question's, the table is exact, and so the search's answer is the portion.
 use native.Mathlib.Omega.{arith}
 use borrow.Author.Tests.{not-true, not-false}
-use Rattle.question.proofs.Answerable.{asked-answerable}
+use Rattle.question.proofs.Answerable.{wanted-answerable}
 use Rattle.question.proofs.Growing.{zeros-fillable}
-use Rattle.portion.proofs.Starting.{refused-start, start-marked, found-portion}
+use Rattle.starting.proofs.Starting.{refused-start, start-marked, found-portion}
 use mathlib.Core.Path.{sym, _∙_}
 use borrow.Author.Needs.{needs}
-use Rattle.portion.proofs.listed.Statement.{statement}
-use Rattle.portion.proofs.listed.Tie as tie
+use Rattle.starting.proofs.list.Statement.{statement}
+use Rattle.starting.proofs.list.Tie as tie
 
 fill-requires : tie.Need-fill-requires
 fill-requires c κs =
     let at-start = c .before .before .before .before .before in
-    zeros-fillable (asked-answerable (at-start .args .file .now) (at-start .args .question) (at-start .pre .asked) .faultless)
+    zeros-fillable (wanted-answerable (at-start .args .file .now) (at-start .args .question) (at-start .pre .wanted) (at-start .pre .asked) .faultless)
 
 fits-requires : tie.Need-fits-requires
 fits-requires c κs =
     let at-start = c .before .before .before .before .before .before .before .before .before .before in
-    (c .before .before .before .before .fill .ensures .compact, asked-answerable (at-start .args .file .now) (at-start .args .question) (at-start .pre .asked) .proper .most)
+    (c .before .before .before .before .fill .ensures .compact, wanted-answerable (at-start .args .file .now) (at-start .args .question) (at-start .pre .wanted) (at-start .pre .asked) .proper .most)
 
 returns : tie.Need-returns
 returns c =
@@ -27,13 +27,13 @@ returns c =
 cast-distances-2 : tie.Need-cast-distances-2
 cast-distances-2 c =
     let at-start = c .before .before .before .before .before .before .before .before .before .before .before .before .before .before .before .before in
-    omega (arith, asked-answerable (at-start .args .file .now) (at-start .args .question) (at-start .pre .asked) .proper .most)
+    omega (arith, wanted-answerable (at-start .args .file .now) (at-start .args .question) (at-start .pre .wanted) (at-start .pre .asked) .proper .most)
 
 distances-requires : tie.Need-distances-requires
 distances-requires c κs =
     let at-start = c .before .before .before .before .before .before .before .before .before .before .before .before .before .before .before .before in
     let at-fill = c .before .before .before .before .before .before .before .before .before .before .fill in
-    let a = asked-answerable (at-start .args .file .now) (at-start .args .question) (at-start .pre .asked) in
+    let a = wanted-answerable (at-start .args .file .now) (at-start .args .question) (at-start .pre .wanted) (at-start .pre .asked) in
     record { compact = at-fill .ensures .compact; end = a .to; hops = a .proper .most }
 
 list-requires : tie.Need-list-requires
@@ -43,7 +43,7 @@ list-requires c κs =
     let at-distances = c .before .before .before .before .before .distances in
     let at-fits2 = c .before .before .before .before .before .before .before .before .before .before .before .fits2 in
     let at-if1 = c .before .before .before .before .before .before .before .before .before .before .if1 in
-    let a = asked-answerable (at-start .args .file .now) (at-start .args .question) (at-start .pre .asked) in
+    let a = wanted-answerable (at-start .args .file .now) (at-start .args .question) (at-start .pre .wanted) (at-start .pre .asked) in
     record {
       graph = at-fill .ensures .compact;
       source = omega (arith, a .from);
@@ -63,8 +63,8 @@ returns-2 c =
     let at-if1 = c .before .before .before .before .before .before .before .before .before .before .before .before .before .before .if1 in
     found-portion (at-start .pre) (at-fill .ensures) (at-start .args .started) (at-start .args .bookmark .now) (sym (at-fits2 .ensures) ∙ not-false (at-fits2 .result) (at-if1 .left)) (c .before .before .before .list .ensures)
 
-pub listed-spec : {M : Type 1} → statement M
-listed-spec =
+pub list-spec : {M : Type 1} → statement M
+list-spec =
     tie.close
     (tie.spec (λ c. search needs) (λ c. search needs) fill-requires fits-requires returns (λ c. search needs) (λ c. search needs)
     (λ c. search needs) cast-distances-2 distances-requires (λ c. search needs) list-requires (λ c. search needs) returns-2)

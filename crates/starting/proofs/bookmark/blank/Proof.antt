@@ -4,10 +4,10 @@ use mathlib.Core.Path.{_≡_, refl, sym, _∙_}
 use Prim.Native.Nat.{_-_, _≤_}
 use native.Mathlib.Omega.{arith}
 use lib.ListN.{length, drop}
-use Rattle.portion.specs.Bookmark.{zeros}
-use Rattle.portion.proofs.Cells.{zeros-on, zeros-stop, zeros-end}
-use Rattle.portion.proofs.bookmark.blank.Statement.{statement}
-use Rattle.portion.proofs.bookmark.blank.Tie as tie
+use Rattle.starting.specs.Bookmark.{zeros}
+use Rattle.starting.proofs.Cells.{zeros-on, zeros-stop, zeros-end}
+use Rattle.starting.proofs.bookmark.blank.Statement.{statement}
+use Rattle.starting.proofs.bookmark.blank.Tie as tie
 
 abbrev Inv-loop : tie.InvT-loop
 Inv-loop cells first at₀ at = (at ≤ length cells) × (zeros (drop first cells) ≡ zeros (drop at cells))

@@ -7,8 +7,8 @@ use Rattle.ways.specs.Graph.{among}
 use Rattle.compact.specs.Compact.{graphOf}
 use Rattle.compact.proofs.Rows.{row-none}
 use Rattle.cells.proofs.Seeking.{Seeking, seek-on, seek-found, seek-none}
-use Rattle.portion.proofs.bookmark.leads.Statement.{statement}
-use Rattle.portion.proofs.bookmark.leads.Tie as tie
+use Rattle.starting.proofs.bookmark.leads.Statement.{statement}
+use Rattle.starting.proofs.bookmark.leads.Tie as tie
 
 abbrev Inv-loop : tie.InvT-loop
 Inv-loop starts targets person next from end at₀ at = Seeking next targets (among next (graphOf starts targets person)) at end

@@ -7,13 +7,13 @@ use native.Mathlib.Omega.{arith}
 use lib.Seq.{slice}
 use borrow.Author.Tests.{not-true, not-false}
 use Rattle.compact.specs.Compact.{graphOf}
-use Rattle.portion.specs.Bookmark.{runs}
-use Rattle.portion.proofs.Cells.{run-on, run-last}
-use Rattle.portion.proofs.bookmark.run.Statement.{statement}
-use Rattle.portion.proofs.bookmark.run.Tie as tie
+use Rattle.starting.specs.Bookmark.{runs}
+use Rattle.starting.proofs.Cells.{run-on, run-last}
+use Rattle.starting.proofs.bookmark.run.Statement.{statement}
+use Rattle.starting.proofs.bookmark.run.Tie as tie
 
 abbrev Inv-loop : tie.InvT-loop
-Inv-loop starts targets cells last to at₀ at = (1 ≤ at) × (at ≤ last) × (runs (graphOf starts targets) to (slice 1 (last + 1) cells) ≡ runs (graphOf starts targets) to (slice at (last + 1) cells))
+Inv-loop starts targets cells last to at₀ at = (2 ≤ at) × (at ≤ last) × (runs (graphOf starts targets) to (slice 2 (last + 1) cells) ≡ runs (graphOf starts targets) to (slice at (last + 1) cells))
 
 abbrev μ-loop : tie.MeasureT-loop
 μ-loop starts targets cells last to at₀ at = last - at

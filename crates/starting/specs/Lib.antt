@@ -1,0 +1,3 @@
+-- What listing from a start asks and promises (Starting), and the test of a bookmark. Definitions only.
+pub mod Starting
+pub mod Bookmark
