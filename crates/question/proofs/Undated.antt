@@ -2,7 +2,7 @@
 -- are admitted as before with either.
 use mathlib.Core.Path.{_≡_, refl, ap, fun-ext}
 use mathlib.Core.Logic.{_≢_}
-use mathlib.Core.Bool.{Bool, true, false, _&&_, _||_, cond, false≢true}
+use mathlib.Core.Bool.{Bool, true, false, not, _&&_, _||_, cond, false≢true}
 use mathlib.Core.List.{List}
 use Prim.Native.Nat.{ℕ}
 use lib.Dec.{eqb}
@@ -10,16 +10,22 @@ use borrow.Author.Tests.{eqb-false, ne-eqb}
 use Rattle.format.specs.Format.{day, kind, linkIn}
 use Rattle.format.specs.Kinds.{classOf}
 use Rattle.format.proofs.Counted.{halves}
+use Rattle.refusals.specs.Faults.{Fault, sound, unless, firstOf}
 use Rattle.question.specs.declared.Question.{Question}
-use Rattle.question.specs.Asked.{restFault, questionFault, personFault}
+use Rattle.question.specs.declared.Wanted as code
+use Rattle.question.specs.Asked.{termsFault, restFault, questionFault, personFault}
 use Rattle.question.specs.Admission.{inSum, dayFits, dayAdmitted, admitted, leads, next}
 use Rattle.question.specs.Before.{admittedBefore, restFaultBefore, AsBefore}
 
 module _ (file : List ℕ) (q : Question) where
   module _ (wants : q .undated ≡ 1) where
-    rest-before : restFault q ≡ restFaultBefore q
-    unfolding restFault
-    rest-before = rw wants
+    rest-before : restFault code.the-variants.Chains q ≡ restFaultBefore q
+    unfolding restFault termsFault
+    rest-before = rw wants (go (not (eqb (q .from) (q .to))) _)
+      where
+        go : (differ : Bool) (after : Fault) → firstOf (unless differ 11 0 sound) after ≡ unless differ 11 0 after
+        go true after = refl
+        go false after = refl
 
     admits-before : (link : ℕ) → admitted file q link ≡ admittedBefore file q link
     unfolding admitted dayAdmitted

@@ -12,6 +12,8 @@ use Rattle.format.specs.Format.{personCount, lastDay}
 use Rattle.checking.specs.Checked.{fileFault, fileNumbers}
 use Rattle.ways.specs.Sizes.{mostHops}
 use Rattle.question.specs.declared.Question.{Question}
+use Rattle.question.specs.declared.Wanted.{Wanted}
+use Rattle.question.specs.declared.Wanted as code
 
 -- 10: From (place 0, looked at first) or To (1) not below n
 abbrev pub endsFault : ℕ → Question → Fault → Fault
@@ -21,37 +23,59 @@ endsFault n q after = unless (ltb (q .from) n) 10 0 (unless (ltb (q .to) n) 10 1
 unfoldable pub daysFit : Question → Bool
 daysFit q = leb 1 (q .first) && leb (q .last) lastDay && leb (q .first) (q .last)
 
--- 11 From equals To; 12 hops; 13 classes; 14 question's meaning; 15 days; "20 for any other number there, after 15 and before 16"
-unfoldable pub restFault : Question → Fault
-restFault q =
-    unless (not (eqb (q .from) (q .to))) 11 0
-    (unless (within 1 mostHops (q .hops)) 12 0
+-- 11 From equals To; where rings are wanted "21, in 11's place, if From and To differ"
+abbrev pub pairFault : Wanted → Question → Fault
+pairFault code.the-variants.Chains q = unless (not (eqb (q .from) (q .to))) 11 0 sound
+pairFault code.the-variants.Rings q = unless (eqb (q .from) (q .to)) 21 0 sound
+
+-- 12 hops; 13 classes; 14 question's meaning; 15 days; "20 for any other number there, after 15 and before 16"
+unfoldable pub termsFault : Question → Fault
+termsFault q =
+    unless (within 1 mostHops (q .hops)) 12 0
     (unless (within 1 15 (q .classes)) 13 0
-    (unless (within 1 2 (q .meaning)) 14 0 (unless (daysFit q) 15 0 (unless (within 0 1 (q .undated)) 20 0 sound)))))
+    (unless (within 1 2 (q .meaning)) 14 0 (unless (daysFit q) 15 0 (unless (within 0 1 (q .undated)) 20 0 sound))))
+
+-- what a question may ask, whatever the file
+unfoldable pub restFault : Wanted → Question → Fault
+restFault wanted q = firstOf (pairFault wanted q) (termsFault q)
 
 -- the question's own faults, to a file of n persons
-unfoldable pub questionFault : ℕ → Question → Fault
-questionFault n q = endsFault n q (restFault q)
+unfoldable pub questionFault : Wanted → ℕ → Question → Fault
+questionFault wanted n q = endsFault n q (restFault wanted q)
 
 -- "Fewest hops reports its extra person as 10 with place 2, after From and To and before 11."
 unfoldable pub personFault : ℕ → Question → ℕ → Fault
-personFault n q person = endsFault n q (unless (ltb person n) 10 2 (restFault q))
+personFault n q person = endsFault n q (unless (ltb person n) 10 2 (restFault code.the-variants.Chains q))
 
 -- the file's refusals come before the question's
+abbrev pub askedFor : Wanted → List ℕ → Question → Fault
+askedFor wanted file q = firstOf (fileFault file) (questionFault wanted (personCount file) q)
+
+-- of a question for chains, and of one for rings
 abbrev pub askedFault : List ℕ → Question → Fault
-askedFault file q = firstOf (fileFault file) (questionFault (personCount file) q)
+askedFault = askedFor code.the-variants.Chains
+
+abbrev pub ringsAskedFault : List ℕ → Question → Fault
+ringsAskedFault = askedFor code.the-variants.Rings
 
 -- the same for a question that names one person more
 abbrev pub askedOfFault : List ℕ → Question → ℕ → Fault
 askedOfFault file q person = firstOf (fileFault file) (personFault (personCount file) q person)
 
 -- the same for so many output cells: 16 comes after the question's refusals
-abbrev pub askedRoomFault : List ℕ → Question → ℕ → Fault
-askedRoomFault file q cells = firstOf (askedFault file q) (roomFault cells sound)
+abbrev pub askedRoomFault : Wanted → List ℕ → Question → ℕ → Fault
+askedRoomFault wanted file q cells = firstOf (askedFor wanted file q) (roomFault cells sound)
 
 -- the numbers that a question is refused with, in this order, and those of a file and a question
-abbrev pub ownNumbers : List ℕ
-ownNumbers = 10 ∷ 11 ∷ 12 ∷ 13 ∷ 14 ∷ 15 ∷ 20 ∷ []
+abbrev pub pairNumber : Wanted → ℕ
+pairNumber code.the-variants.Chains = 11
+pairNumber code.the-variants.Rings = 21
+
+abbrev pub ownNumbers : Wanted → List ℕ
+ownNumbers wanted = 10 ∷ pairNumber wanted ∷ 12 ∷ 13 ∷ 14 ∷ 15 ∷ 20 ∷ []
 
 abbrev pub askedNumbers : List ℕ
-askedNumbers = fileNumbers ++ ownNumbers
+askedNumbers = fileNumbers ++ ownNumbers code.the-variants.Chains
+
+abbrev pub ringsAskedNumbers : List ℕ
+ringsAskedNumbers = fileNumbers ++ ownNumbers code.the-variants.Rings

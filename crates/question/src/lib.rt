@@ -13,7 +13,7 @@ use refusals::Fault;
 use ways::RECORD;
 ghost use mathlib.Core.Path.{_≡_};
 ghost use Rattle.refusals.specs.Faults.{faultSaid};
-ghost use Rattle.question.specs.Asked.{askedFault, askedOfFault, askedRoomFault};
+ghost use Rattle.question.specs.Asked.{askedFor, askedOfFault, askedRoomFault};
 
 // From, to, hops, classes, date meaning, first day, last day, and whether undated links count: 1 they do, 0 they are left out.
 pub struct Question {
@@ -27,9 +27,15 @@ pub struct Question {
     pub undated: u32,
 }
 
-// The first refusal of any bytes and any question: the file's own, 1 to 9, then the question's, 10 to 15 and 20.
-fn asked(file: &[u8], question: Question) -> Fault
-    ensures { λ r. ⌜ faultSaid r ≡ askedFault (now (file .entry)) question ⌝ }
+// What a question is asked for: the chains from one person to another, or the rings back to the same person.
+pub enum Wanted {
+    Chains,
+    Rings,
+}
+
+// The first refusal of any bytes and any question: the file's own, 1 to 9, then the question's, 10 to 15 and 20, for rings 21 in 11's place.
+fn asked(file: &[u8], question: Question, wanted: Wanted) -> Fault
+    ensures { λ r. ⌜ faultSaid r ≡ askedFor wanted (now (file .entry)) question ⌝ }
 {
     match checking::check(file) {
         Verdict::Refused { number, place } => Fault::At(number, place),
@@ -37,7 +43,7 @@ fn asked(file: &[u8], question: Question) -> Fault
             persons,
             links: _,
             feeds: _,
-        } => faults::question_fault(persons, question),
+        } => faults::question_fault(persons, question, wanted),
     }
 }
 
@@ -56,10 +62,10 @@ pub fn asked_of(file: &[u8], question: Question, person: u32) -> Fault
 }
 
 // The same as `asked`, and then 16: so many output cells have to hold a record.
-pub fn asked_room(file: &[u8], question: Question, cells: usize) -> Fault
-    ensures { λ r. ⌜ faultSaid r ≡ askedRoomFault (now (file .entry)) question cells ⌝ }
+pub fn asked_room(file: &[u8], question: Question, wanted: Wanted, cells: usize) -> Fault
+    ensures { λ r. ⌜ faultSaid r ≡ askedRoomFault wanted (now (file .entry)) question cells ⌝ }
 {
-    if let Fault::At(number, place) = asked(file, question) {
+    if let Fault::At(number, place) = asked(file, question, wanted) {
         return Fault::At(number, place);
     }
     if cells < RECORD {

@@ -18,7 +18,8 @@ numbered-where numbers false number place after h rest = h
 pub numbered-unless : (numbers : List ℕ) (rule : Bool) (number place : ℕ) (after : Fault) → Numbered numbers (fault number place) → Numbered numbers after → Numbered numbers (unless rule number place after)
 numbered-unless numbers rule number place after h rest = numbered-where numbers rule number place after h (λ holds. rest)
 
-numbered-more : (a b : List ℕ) → Within a b → (f : Fault) → Numbered a f → Numbered b f
+-- one of some numbers is one of more
+pub numbered-more : (a b : List ℕ) → Within a b → (f : Fault) → Numbered a f → Numbered b f
 numbered-more a b h sound i = tt
 numbered-more a b h (fault number place) i = (h number (i .0), i .1)
 

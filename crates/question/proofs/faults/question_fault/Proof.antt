@@ -9,13 +9,13 @@ returns : tie.Need-returns
 unfolding questionFault
 returns c =
     let at-start = c .before .before .before .before in
-    rw (ends-first (at-start .args .persons) (at-start .args .question) (restFault (at-start .args .question)), ← c .before .before .before .ends-fault .ensures, c .before .number .given .1)
+    rw (ends-first (at-start .args .persons) (at-start .args .question) (restFault (at-start .args .wanted) (at-start .args .question)), ← c .before .before .before .ends-fault .ensures, c .before .number .given .1)
 
 returns-2 : tie.Need-returns-2
 unfolding questionFault
 returns-2 c =
     let at-start = c .before .before .before .before in
-    rw (ends-first (at-start .args .persons) (at-start .args .question) (restFault (at-start .args .question)), ← c .before .before .before .ends-fault .ensures, c .before .enum-told .given .1) (c .rest-fault .ensures)
+    rw (ends-first (at-start .args .persons) (at-start .args .question) (restFault (at-start .args .wanted) (at-start .args .question)), ← c .before .before .before .ends-fault .ensures, c .before .enum-told .given .1) (c .rest-fault .ensures)
 
 pub question-fault-spec : {M : Type 1} → statement M
 question-fault-spec =
