@@ -6,12 +6,11 @@ use native.Mathlib.Omega.{arith}
 use lib.ListN.{length}
 use Rattle.refusals.specs.Faults.{Fault, sound}
 use Rattle.ways.specs.Graph.{_∈_}
-use Rattle.ways.specs.Order.{Before, short}
 use Rattle.ways.specs.Portions.{after, lastOr}
 use Rattle.ways.specs.Records.{recordOf, chainOf, cellsOf, roomOf}
 use Rattle.ways.specs.Sizes.{recordSize}
 use Rattle.ways.proofs.Portions.{lastOr-in}
-use Rattle.ways.proofs.After.{after-from, after-all}
+use Rattle.ways.proofs.After.{after-from, after-fresh}
 use Rattle.ways.proofs.Members.{take-in}
 use Rattle.ways.proofs.Records.{length-recordOf, chainOf-recordOf, true-isRecordIn}
 use Rattle.listing.specs.Portions.{Listing, Start, bookmarked, startsAfter, startFault, refusalOf, portionOf}
@@ -36,11 +35,7 @@ pub record Kept (chains : List (List ℕ)) (bookmark c : List ℕ) : Type 0 wher
 module _ {chains : List (List ℕ)} (is : Listing chains) where
   -- a fresh start comes before every chain
   pub fresh-all : after [] chains ≡ chains
-  fresh-all = after-all [] chains (λ c m. some c (is .fits c m .some))
-    where
-      some : (c : List ℕ) → 1 ≤ length c → Before [] c
-      some [] h = absurd (omega arith)
-      some (p ∷ c) h = short
+  fresh-all = after-fresh chains (λ c m. is .fits c m .some)
 
   pub kept : (c : List ℕ) → c ∈ chains → Kept chains (recordOf recordSize c) c
   kept c m =

@@ -3,11 +3,12 @@ use mathlib.Core.Path.{_≡_, refl, sym, ap, subst, _∙_}
 use mathlib.Core.Logic.{_⊎_, inl, inr}
 use mathlib.Core.Bool.{Bool, true, false, true≢false, cond}
 use mathlib.Core.List.{List, [], _∷_, _++_, map, List·Memᴰ·head, List·Memᴰ·tail, Memᴰ·of-map}
-use Prim.Native.Nat.{ℕ, _<_}
+use Prim.Native.Nat.{ℕ, _≤_, _<_}
 use native.Mathlib.Omega.{arith}
+use lib.ListN.{length}
 use borrow.Author.Tests.{eq-eqb, le-ltb}
 use Rattle.ways.specs.Graph.{Graph, _∈_, keep}
-use Rattle.ways.specs.Order.{Before, less, same, before, Rising}
+use Rattle.ways.specs.Order.{Before, short, less, same, before, Rising}
 use Rattle.ways.specs.Listing.{ways, listing}
 use Rattle.ways.specs.Portions.{after}
 use Rattle.ways.proofs.Members.{mem-split, keep-from, keep-in, keep-append}
@@ -24,6 +25,14 @@ pub after-none : (b : List ℕ) (L : List (List ℕ)) → ((c : List ℕ) → c 
 unfolding after
 after-none b [] h = refl
 after-none b (c ∷ L) h = rw (false-before b c (h c (List·Memᴰ·head refl))) (after-none b L (λ d m. h d (List·Memᴰ·tail m)))
+
+-- the fresh start: whatever has a person follows it
+pub after-fresh : (L : List (List ℕ)) → ((c : List ℕ) → c ∈ L → 1 ≤ length c) → after [] L ≡ L
+after-fresh L h = after-all [] L (λ c m. some c (h c m))
+  where
+    some : (c : List ℕ) → 1 ≤ length c → Before [] c
+    some [] h = absurd (omega arith)
+    some (p ∷ c) h = short
 
 -- those that pass the test `before b`
 pub after-keep : (b : List ℕ) (L : List (List ℕ)) → after b L ≡ keep (before b) L

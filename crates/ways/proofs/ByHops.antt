@@ -16,7 +16,7 @@ use Rattle.ways.specs.ByHops.{Sooner, shorter, level, shorterFirst, chai
 use Rattle.ways.proofs.Members.{keep-from, keep-in}
 use Rattle.ways.proofs.Way.{Way, way-in, way-from}
 use Rattle.ways.proofs.Listed.{exact}
-use Rattle.ways.proofs.Rising.{rising-append, rising-distinct, only, rising-keep, rising-within}
+use Rattle.ways.proofs.Rising.{rising-append, rising-distinct, one-list, rising-keep, rising-within}
 use Rattle.ways.proofs.Ordered.{before-asym, ordered}
 use Rattle.ways.proofs.Barrier.{way-cut}
 use Rattle.ways.proofs.Records.{listing-few}
@@ -102,4 +102,4 @@ module _ (g : Graph) (s t : ℕ) where
     byHops-once k = rising-distinct Sooner (λ a b. sooner-asym) (byHops g s t k) (byHops-ordered k)
 
     pub byHops-determined : (k : ℕ) → s ≢ t → (M : List (List ℕ)) → Rising Sooner M → ((c : List ℕ) → c ∈ M ↔ Chain g s t k c) → M ≡ byHops g s t k
-    byHops-determined k ne M r h = only Sooner (λ a b. sooner-asym) M (byHops g s t k) r (byHops-ordered k) (λ c m. byHops-exact k ne c .1 (h c .0 m)) (λ c m. h c .1 (byHops-exact k ne c .0 m))
+    byHops-determined k ne M r h = one-list Sooner (λ a b. sooner-asym) (Chain g s t k) M (byHops g s t k) r (byHops-ordered k) h (byHops-exact k ne)

@@ -1,7 +1,7 @@
 -- A sequence of persons is cut at one of them, and put together again.
 use mathlib.Core.Path.{_≡_, refl, sym, ap, _∙_}
 use mathlib.Core.Logic.{_⊎_, inl, inr}
-use mathlib.Core.List.{List, [], _∷_, _++_, List·Memᴰ·head, List·Memᴰ·tail, List·Memᴰ·append-cases, Memᴰ·append-left, Memᴰ·append-right, Memᴰ·cast}
+use mathlib.Core.List.{List, [], _∷_, _++_, dropLast, List·Memᴰ·head, List·Memᴰ·tail, List·Memᴰ·append-cases, Memᴰ·append-left, Memᴰ·append-right, Memᴰ·cast}
 use Prim.Native.Nat.{ℕ}
 use Rattle.ways.specs.Graph.{Graph, _∈_}
 use Rattle.ways.specs.Chain.{Last, Linked, Distinct}
@@ -29,10 +29,10 @@ last-snoc u (p ∷ []) = refl
 last-snoc u (p ∷ q ∷ lo) = last-snoc u (q ∷ lo)
 
 -- the last stands behind the others
-pub last-part : (t : ℕ) (l : List ℕ) → Last t l → (lo : List ℕ) × (l ≡ lo ++ (t ∷ []))
-last-part t [] h = absurd h
-last-part t (p ∷ []) h = ([], ap (λ x. x ∷ []) h)
-last-part t (p ∷ q ∷ l) h = let r = last-part t (q ∷ l) h in (p ∷ r .0, ap (_∷_ p) (r .1))
+pub last-behind : (t : ℕ) (l : List ℕ) → Last t l → l ≡ dropLast l ++ (t ∷ [])
+last-behind t [] h = absurd h
+last-behind t (p ∷ []) h = ap (λ x. x ∷ []) h
+last-behind t (p ∷ q ∷ l) h = ap (_∷_ p) (last-behind t (q ∷ l) h)
 
 pub lastOr-last : (p : ℕ) (l : List ℕ) → Last (lastOr p l) (p ∷ l)
 lastOr-last p [] = refl

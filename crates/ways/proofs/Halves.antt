@@ -17,7 +17,7 @@ use Rattle.ways.specs.Records.{Fits}
 use Rattle.ways.specs.ByHops.{Sooner}
 use Rattle.ways.specs.Halves.{HalfChain, personsBelow, extends, halfChains, halves, halvesFit}
 use Rattle.ways.proofs.Members.{flatMap-in, flatMap-from, among-true, mem-among, among-false, out-among, out, keep-from, keep-in}
-use Rattle.ways.proofs.Rising.{rising-append, only, rising-keep}
+use Rattle.ways.proofs.Rising.{rising-append, one-list, rising-keep}
 use Rattle.ways.proofs.Ordered.{unless-from, unless-row}
 use Rattle.ways.proofs.ByHops.{sooner-asym, shorterFirst-from, shorterFirst-in, shorterFirst-rising}
 
@@ -109,7 +109,7 @@ module _ (g : Graph) (n s t : ℕ) (apart : s ≢ t) (low : (p v : ℕ) → v �
   halves-ordered k = shorterFirst-rising (halfChains g n s t) (halfChains-rising g n s t) (λ j h m. halfChains-from g n s t apart j m .exactly) (k / 2)
 
   pub halves-determined : (k : ℕ) (H : List (List ℕ)) → Rising Sooner H → ((h : List ℕ) → h ∈ H ↔ (HalfChain g s t (hops h) h × (hops h ≤ k / 2))) → H ≡ halves g n s t k
-  halves-determined k H r i = only Sooner (λ a b. sooner-asym) H (halves g n s t k) r (halves-ordered k) (λ h m. halves-exact k h .1 (i h .0 m)) (λ h m. i h .1 (halves-exact k h .0 m))
+  halves-determined k H r i = one-list Sooner (λ a b. sooner-asym) (λ h. HalfChain g s t (hops h) h × (hops h ≤ k / 2)) H (halves g n s t k) r (halves-ordered k) i (halves-exact k)
 
   -- a half chain has a record
   pub half-fits : (k size : ℕ) → k / 2 + 2 ≤ size → (h : List ℕ) → h ∈ halves g n s t k → Fits size h

@@ -2,7 +2,7 @@
 use mathlib.Core.Path.{_≡_, refl, sym, ap, ap₂, subst, subst₂, _∙_, fun-ext}
 use mathlib.Core.Logic.{_≢_, _⊎_, inl, inr}
 use mathlib.Core.Bool.{Bool, true, false, false≢true, cond}
-use mathlib.Core.List.{List, [], _∷_, _++_, List·Memᴰ·head, List·Memᴰ·tail, List·Memᴰ·not-nil, List·Memᴰ·cases-cons, Memᴰ·map, Memᴰ·of-map, Memᴰ·cast}
+use mathlib.Core.List.{List, [], _∷_, _++_, dropLast, List·Memᴰ·head, List·Memᴰ·tail, List·Memᴰ·not-nil, List·Memᴰ·cases-cons, Memᴰ·map, Memᴰ·of-map, Memᴰ·cast}
 use Prim.Native.Nat.{ℕ, suc, _+_, _/_, _≤_, _<_}
 use native.Mathlib.Omega.{arith}
 use lib.ListN.{length, getD, take, drop, length-append}
@@ -17,7 +17,7 @@ use Rattle.ways.specs.ByHops.{shorterFirst, chainsOf, byHops}
 use Rattle.ways.specs.Halves.{HalfChain, halfChains}
 use Rattle.ways.specs.Join.{leftHops, rightHops, LeftHalf, leftHalves, Meets, noneAmong, meets, glue, Split, joined}
 use Rattle.ways.proofs.Members.{flatMap-in, flatMap-from, among-false, out-among, keep-from, keep-in}
-use Rattle.ways.proofs.Cut.{linked-left, linked-right, last-right, last-snoc, last-part, lastOr-last, last-lastOr, last-only, linked-append, last-append, distinct-left, distinct-right, distinct-apart, distinct-append}
+use Rattle.ways.proofs.Cut.{linked-left, linked-right, last-right, last-snoc, last-behind, lastOr-last, last-lastOr, last-only, linked-append, last-append, distinct-left, distinct-right, distinct-apart, distinct-append}
 use Rattle.ways.proofs.Listed.{exact}
 use Rattle.ways.proofs.Rising.{only, rising-keep, rising-by, rising-across}
 use Rattle.ways.proofs.Ordered.{before-asym, before-append, before-longer}
@@ -116,7 +116,7 @@ module _ {g : Graph} {s t : ℕ} where
 
   pub halves-chain : (L : ℕ) (l h c : List ℕ) → Split g s t L l h c → Chain g s t L c × (hops c ≡ L)
   halves-chain L l [] c r = absurd (r .middle)
-  halves-chain L l (m ∷ h) c r = let q = last-part m l (r .middle .0) in put (q .0) (q .1)
+  halves-chain L l (m ∷ h) c r = put (dropLast l) (last-behind m l (r .middle .0))
     where
       put : (lo : List ℕ) → l ≡ lo ++ (m ∷ []) → Chain g s t L c × (hops c ≡ L)
       put lo e =

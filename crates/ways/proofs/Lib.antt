@@ -17,3 +17,5 @@ pub mod ByHops
 pub mod Halves
 pub mod Onward
 pub mod Join
+pub mod Rings
+pub mod Directions

@@ -92,24 +92,18 @@ listed g s t k c = (λ m. to (Memᴰ·of-map (_∷_ s) (ways g t k (s ∷ []) s)
         (record { linked = subst (λ x. Linked g (x ∷ w)) (h .first) (h .linked); last = h .last; once = h .once; apart = λ x a n j. let e = List·Memᴰ·eq-of-singleton j in h .apart (λ i. n (e ∙ i)) (Memᴰ·cast (sym e) a); few = h .few }))))
 
 -- where From is not To, these are the chains
-passing-chain : (g : Graph) (s t k : ℕ) → s ≢ t → (c : List ℕ) → Passing g s t k c ↔ Chain g s t k c
-passing-chain g s t k ne c = (to c, from c)
-  where
-    to : (c : List ℕ) → Passing g s t k c → Chain g s t k c
-    to [] h = absurd (h .first)
-    to (p ∷ w) h = record { first = h .first; last = last-cons t p w (h .last); linked = h .linked; once = (λ a. h .apart ne (Memᴰ·cast (sym (h .first)) a), h .once); some = last-some t w (h .last); few = h .few }
+pub passing-chain : (g : Graph) (s t k : ℕ) → s ≢ t → (c : List ℕ) → Passing g s t k c → Chain g s t k c
+passing-chain g s t k ne [] h = absurd (h .first)
+passing-chain g s t k ne (p ∷ w) h = record { first = h .first; last = last-cons t p w (h .last); linked = h .linked; once = (λ a. h .apart ne (Memᴰ·cast (sym (h .first)) a), h .once); some = last-some t w (h .last); few = h .few }
 
-    from : (c : List ℕ) → Chain g s t k c → Passing g s t k c
-    from [] h = absurd (h .first)
-    from (p ∷ []) h = absurd (omega arith)
-    from (p ∷ q ∷ w) h = record { first = h .first; last = h .last; linked = h .linked; once = h .once .1; apart = λ n a. h .once .0 (Memᴰ·cast (h .first) a); few = h .few }
+pub chain-passing : (g : Graph) (s t k : ℕ) (c : List ℕ) → Chain g s t k c → Passing g s t k c
+chain-passing g s t k [] h = absurd (h .first)
+chain-passing g s t k (p ∷ []) h = absurd (omega arith)
+chain-passing g s t k (p ∷ q ∷ w) h = record { first = h .first; last = h .last; linked = h .linked; once = h .once .1; apart = λ n a. h .once .0 (Memᴰ·cast (h .first) a); few = h .few }
 
 -- exact: in the listing if and only if a chain
 pub exact : (g : Graph) (s t k : ℕ) → s ≢ t → (c : List ℕ) → c ∈ listing g s t k ↔ Chain g s t k c
-exact g s t k ne c =
-    let l = listed g s t k c in
-    let e = passing-chain g s t k ne c in
-    ((λ m. e .0 (l .0 m)), (λ h. l .1 (e .1 h)))
+exact g s t k ne c = let l = listed g s t k c in (λ m. passing-chain g s t k ne c (l .0 m), λ h. l .1 (chain-passing g s t k c h))
 
 -- no person has a chain to the same person
 pub no-chain : (g : Graph) (s k : ℕ) (c : List ℕ) → ¬ Chain g s s k c
@@ -117,7 +111,12 @@ no-chain g s k [] h = h .first
 no-chain g s k (p ∷ []) h = omega arith
 no-chain g s k (p ∷ q ∷ c) h = h .once .0 (Memᴰ·cast (h .first) (last-in (q ∷ c) (h .last)))
 
+-- nothing that stands in the listing is a beginning of another
+pub passing-no-beginning : (g : Graph) (s t k : ℕ) (c d : List ℕ) → Passing g s t k c → Passing g s t k (c ++ d) → d ≡ []
+passing-no-beginning g s t k c [] h i = refl
+passing-no-beginning g s t k [] (x ∷ d) h i = absurd (h .first)
+passing-no-beginning g s t k (p ∷ w) (x ∷ d) h i = absurd (distinct-apart (x ∷ d) (last-in w (h .last)) (i .once) (last-in (x ∷ d) (last-right t x w d (i .last))))
+
 -- "No chain is a beginning of another."
 pub no-beginning : (g : Graph) (s t k : ℕ) (c d : List ℕ) → Chain g s t k c → Chain g s t k (c ++ d) → d ≡ []
-no-beginning g s t k c [] h i = refl
-no-beginning g s t k c (x ∷ d) h i = absurd (distinct-apart (x ∷ d) (last-in c (h .last)) (i .once) (last-in (x ∷ d) (last-right t x c d (i .last))))
+no-beginning g s t k c d h i = passing-no-beginning g s t k c d (chain-passing g s t k c h) (chain-passing g s t k (c ++ d) i)

@@ -88,6 +88,11 @@ take-in (suc r) (y ∷ l) {x} m = step (λ i. take-in r l i) (List·Memᴰ·case
     step on (inl e) = List·Memᴰ·head e
     step on (inr i) = List·Memᴰ·tail (on i)
 
+-- a list without members
+pub nobody : {A : Type 0} (l : List A) → ((x : A) → ¬ (x ∈ l)) → l ≡ []
+nobody [] n = refl
+nobody (x ∷ l) n = absurd (n x (List·Memᴰ·head refl))
+
 -- a member parts its list
 pub mem-split : {A : Type 0} {x : A} {l : List A} → x ∈ l → (lo : List A) × (hi : List A) × (l ≡ lo ++ x ∷ hi)
 mem-split (List·Memᴰ·head {xs = l} e) = ([], l, ap (λ y. y ∷ l) (sym e))
@@ -113,6 +118,11 @@ module _ {A : Type 0} (f : A → Bool) where
       go : (t : Bool) → x ∈ keep f l → x ∈ cond t (y ∷ keep f l) (keep f l)
       go true i = List·Memᴰ·tail i
       go false i = i
+
+  pub keep-all : (l : List A) → ((x : A) → x ∈ l → f x ≡ true) → keep f l ≡ l
+  unfolding keep
+  keep-all [] h = refl
+  keep-all (x ∷ l) h = rw (h x (List·Memᴰ·head refl)) (ap (_∷_ x) (keep-all l (λ y m. h y (List·Memᴰ·tail m))))
 
   pub keep-append : (l m : List A) → keep f (l ++ m) ≡ keep f l ++ keep f m
   unfolding keep

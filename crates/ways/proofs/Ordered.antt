@@ -13,7 +13,7 @@ use Rattle.ways.specs.Chain.{Distinct, Chain}
 use Rattle.ways.specs.Order.{Before, short, less, same, before, Rising}
 use Rattle.ways.specs.Listing.{by, ways, listing}
 use Rattle.ways.proofs.Listed.{exact}
-use Rattle.ways.proofs.Rising.{rising-distinct, only, rising-by, rising-across}
+use Rattle.ways.proofs.Rising.{rising-distinct, one-list, rising-by, rising-across}
 
 -- dictionary order is an order
 pub before-trans : {a b c : List ℕ} → Before a b → Before b c → Before a c
@@ -64,6 +64,10 @@ pub before-longer : {a b : List ℕ} (c d : List ℕ) → Before a b → length 
 before-longer c d short e = absurd (omega arith)
 before-longer c d (less h) e = less h
 before-longer c d (same {a = a} {b = b} h r) e = let i : length a ≡ length b = omega arith in same h (before-longer c d r i)
+
+-- nothing stands twice in a list that rises
+pub rising-once : (L : List (List ℕ)) → Rising Before L → Distinct L
+rising-once L r = rising-distinct Before (λ a b. before-asym) L r
 
 -- a row of lists that all begin with x
 abbrev pub Heads : ℕ → List (List ℕ) → Type 0
@@ -128,8 +132,8 @@ module _ (g : Graph) (rows : (p : ℕ) → Rising _<_ (g p)) where
 
   -- so each chain stands there once
   pub once-each : (s t k : ℕ) → Distinct (listing g s t k)
-  once-each s t k = rising-distinct Before (λ a b. before-asym) (listing g s t k) (ordered s t k)
+  once-each s t k = rising-once (listing g s t k) (ordered s t k)
 
   -- every chain, nothing else, in dictionary order: there is one such list
   pub determined : (s t k : ℕ) → s ≢ t → (L : List (List ℕ)) → Rising Before L → ((c : List ℕ) → c ∈ L ↔ Chain g s t k c) → L ≡ listing g s t k
-  determined s t k ne L r h = only Before (λ a b. before-asym) L (listing g s t k) r (ordered s t k) (λ c m. exact g s t k ne c .1 (h c .0 m)) (λ c m. h c .1 (exact g s t k ne c .0 m))
+  determined s t k ne L r h = one-list Before (λ a b. before-asym) (Chain g s t k) L (listing g s t k) r (ordered s t k) h (exact g s t k ne)

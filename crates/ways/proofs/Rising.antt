@@ -1,6 +1,6 @@
 -- Lists that rise in an order: nothing stands there twice, and the members determine the list.
 use mathlib.Core.Path.{_≡_, refl, sym, ap₂, subst, _∙_}
-use mathlib.Core.Logic.{_⊎_, inl, inr}
+use mathlib.Core.Logic.{_↔_, _⊎_, inl, inr}
 use mathlib.Core.Bool.{Bool, true, false, cond}
 use mathlib.Core.List.{List, [], _∷_, _++_, map, flatMap, List·Memᴰ·head, List·Memᴰ·tail, List·Memᴰ·not-nil, List·Memᴰ·cases-cons, List·Memᴰ·append-cases, Memᴰ·append-right, Memᴰ·of-map}
 use Rattle.ways.specs.Graph.{_∈_, keep}
@@ -68,6 +68,10 @@ module _ {A : Type 0} (R : A → A → Type 0) where
         right : (z : A) → z ∈ m → (z ≡ x) ⊎ (z ∈ l) → z ∈ l
         right z i (inl e) = absurd (irr (sym eq ∙ sym e) (q .0 z i))
         right z i (inr j) = j
+
+    -- so whoever says who stands there names one rising list at most
+    pub one-list : (Is : A → Type 0) (l m : List A) → Rising R l → Rising R m → ((x : A) → x ∈ l ↔ Is x) → ((x : A) → x ∈ m ↔ Is x) → l ≡ m
+    one-list Is l m r q f h = only l m r q (λ x i. h x .1 (f x .0 i)) (λ x i. f x .1 (h x .0 i))
 
 -- below x and above x
 pub rising-below : {A : Type 0} (R : A → A → Type 0) {x : A} {lo : List A} (hi : List A) {y : A} → y ∈ lo → Rising R (lo ++ x ∷ hi) → R y x

@@ -10,7 +10,7 @@ use lib.Dec.{eqb}
 use borrow.Author.Tests.{eqb-true, eqb-false, eq-eqb, ne-eqb}
 use Rattle.ways.specs.Graph.{Graph, _∈_, among}
 use Rattle.ways.specs.Listing.{by, ways}
-use Rattle.ways.proofs.Members.{flatMap-in, flatMap-from, among-false, out-among}
+use Rattle.ways.proofs.Members.{flatMap-in, flatMap-from, among-false, out-among, nobody}
 
 -- w leads on from p to t in at most k hops; nobody seen stands in it but perhaps t, and t stands at its end only
 pub data Way (g : Graph) (t : ℕ) : ℕ → List ℕ → ℕ → List ℕ → Type 0 where
@@ -65,11 +65,7 @@ pub no-way : {g : Graph} {t k p : ℕ} {seen : List ℕ} → ways g t k seen p �
 no-way e w r = List·Memᴰ·not-nil (subst (λ l. w ∈ l) e (way-in r))
 
 pub none : (g : Graph) (t k p : ℕ) (seen : List ℕ) → ((w : List ℕ) → ¬ Way g t k seen p w) → ways g t k seen p ≡ []
-none g t k p seen n = go (ways g t k seen p) (λ w m. n w (way-from g t k p seen m))
-  where
-    go : (l : List (List ℕ)) → ((w : List ℕ) → w ∈ l → ⊥) → l ≡ []
-    go [] n = refl
-    go (w ∷ l) n = absurd (n w (List·Memᴰ·head refl))
+none g t k p seen n = nobody (ways g t k seen p) (λ w m. n w (way-from g t k p seen m))
 
 -- by the links of a person
 pub ways-links : (g : Graph) (t k : ℕ) (seen : List ℕ) (p : ℕ) → 1 ≤ k → ways g t k seen p ≡ flatMap (by t seen (ways g t (k - 1))) (g p)

@@ -10,3 +10,4 @@ pub mod Fewest
 pub mod ByHops
 pub mod Halves
 pub mod Join
+pub mod Ring
