@@ -1,4 +1,4 @@
--- Whom a person's admitted links lead to: persons of the file, strictly rising, and nobody from whoever is not in the file.
+-- Whom a person's admitted links lead to: other persons of the file, strictly rising, and nobody from whoever is not in the file.
 use mathlib.Core.Path.{_≡_, refl, sym}
 use mathlib.Core.Logic.{_⊎_, inl, inr}
 use mathlib.Core.Bool.{Bool, true, false, cond}
@@ -93,6 +93,13 @@ module _ {file : List ℕ} {n m f : ℕ} (p : Passed file n m f) (q : Question) 
       let l = next-led file q person i in
       let k = passed-link p person (l .link) (omega (arith, p .persons, l .inside)) (l .low) (l .high) in
       omega (arith, p .persons, k .person, l .leads)
+
+  -- nobody is led to themselves
+  pub next-other : (person : ℕ) → ¬ (person ∈ next file q person)
+  next-other person i =
+      let l = next-led file q person i in
+      let k = passed-link p person (l .link) (omega (arith, p .persons, l .inside)) (l .low) (l .high) in
+      k .other (sym (l .leads))
 
   -- strictly rising
   pub next-rising : (person : ℕ) → Rising _<_ (next file q person)

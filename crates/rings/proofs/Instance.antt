@@ -27,7 +27,7 @@ module _ (file : List ℕ) (q : Question) where
 
     pub rings-listing : Listing (ringsFor file q)
     rings-listing = record {
-      rises = rings-ordered (next file q) rows (q .from) (q .hops);
+      rises = rings-ordered (next file q) (q .from) (q .hops) rows;
       fits = rings-fits (next file q) (q .from) (q .hops) recordSize (omega (arith, wanted-answerable file q wanted.the-variants.Rings asked .proper .most));
     }
 
