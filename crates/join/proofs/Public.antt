@@ -18,7 +18,6 @@ use Rattle.ways.specs.Sizes.{recordSize}
 use Rattle.ways.proofs.Cases.{lt-or-le}
 use Rattle.compact.specs.Compact.{graphOf}
 use Rattle.question.specs.declared.Question.{Question}
-use Rattle.question.specs.declared.Wanted as wanted
 use Rattle.question.specs.Asked.{askedFault, askedRoomFault}
 use Rattle.question.specs.Filled.{Filled}
 use Rattle.question.proofs.Answerable.{Answerable, asked-answerable, asked-differ}
@@ -27,12 +26,12 @@ use Rattle.join.specs.Lists.{halvesFor, chainsFor, halvesFault, joinFaul
 use Rattle.join.specs.Answers.{Answered, Joins, Passed, halvesIn, JoinsIn}
 
 -- 1 to 15, 20 and 16: nothing has changed
-pub join-refused : (file : List ℕ) (q : Question) (working out : List ℕ) {number place : ℕ} → askedRoomFault wanted.the-variants.Chains file q (length out) ≡ fault number place → Joins file q working working out out (code.the-variants.Refused number place)
+pub join-refused : (file : List ℕ) (q : Question) (working out : List ℕ) {number place : ℕ} → askedRoomFault file q (length out) ≡ fault number place → Joins file q working working out out (code.the-variants.Refused number place)
 join-refused file q working out e =
     let first : joinFault file q working out ≡ fault _ _ = room-refuses (askedFault file q) (length out) (halvesFault recordSize (length working) (halvesFor file q)) e in
     record { answers = rw first; shelf = rw first; cells = rw first }
 
-module _ (file : List ℕ) (q : Question) (out : List ℕ) (passed : askedRoomFault wanted.the-variants.Chains file q (length out) ≡ sound) where
+module _ (file : List ℕ) (q : Question) (out : List ℕ) (passed : askedRoomFault file q (length out) ≡ sound) where
   sound-asked : askedFault file q ≡ sound
   sound-asked = room-passes (askedFault file q) (length out) passed .0
 

@@ -21,7 +21,6 @@ ghost use mathlib.Core.Path.{_≡_};
 ghost use lib.ListN.{length};
 ghost use Rattle.refusals.specs.Faults.{sound};
 ghost use Rattle.question.specs.Asked.{askedRoomFault};
-ghost use Rattle.question.specs.declared.Wanted as wanted;
 ghost use Rattle.join.specs.Answers.{Joins, Passed, JoinsIn};
 
 // The join over the compact graph of a file of so many persons: the half chains are counted before any cell is written.
@@ -62,7 +61,7 @@ fn join_graph(
 
 // The join where the file, the question and the output have passed.
 fn joined(file: &[u8], question: Question, working: &mut [u32], out: &mut [u32]) -> Answer
-    requires { ⌜ askedRoomFault wanted.the-variants.Chains (now file) question (length (now out)) ≡ sound ⌝ }
+    requires { ⌜ askedRoomFault (now file) question (length (now out)) ≡ sound ⌝ }
     ensures { λ r. ⌜ Joins (now (file .entry)) question (now (working .entry)) (now (working .exit)) (now (out .entry)) (now (out .exit)) r ⌝ }
 {
     let mut rows = [0u16; STARTS];
@@ -85,7 +84,12 @@ fn joined(file: &[u8], question: Question, working: &mut [u32], out: &mut [u32])
 pub fn join(file: &[u8], question: Question, working: &mut [u32], out: &mut [u32]) -> Answer
     ensures { λ r. ⌜ Joins (now (file .entry)) question (now (working .entry)) (now (working .exit)) (now (out .entry)) (now (out .exit)) r ⌝ }
 {
-    if let Fault::At(number, place) = question::asked_room(file, question, Wanted::Chains, out.len()) {
+    if let Fault::At(number, place) = question::asked_room(
+        file,
+        question,
+        Wanted::Chains,
+        out.len(),
+    ) {
         return Answer::Refused { number, place };
     }
     joined(file, question, working, out)

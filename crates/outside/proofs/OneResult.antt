@@ -8,12 +8,13 @@ use native.Mathlib.Omega.{arith}
 use lib.ListN.{length}
 use Rattle.question.specs.declared.Question.{Question}
 use Rattle.listing.specs.Portions.{Start}
+use Rattle.refusals.specs.Faults.{Fault}
 use Rattle.refusals.specs.Answers.{answerSaid}
 use Rattle.refusals.specs.declared.Answer as code
 use Rattle.listing.proofs.OneResult.{portion-one}
 use Rattle.held.proofs.OneResult.{held-one}
 use Rattle.join.proofs.OneResult.{join-one}
-use Rattle.outside.specs.Encoded.{listedNumber, CheckNumber, RowNumber, FewestNumber, PortionNumber, JoinNumber}
+use Rattle.outside.specs.Encoded.{listedNumber, CheckNumber, RowNumber, FewestNumber, ListingNumber, JoinNumber}
 use Rattle.outside.specs.HeldCells.{heldWhole, heldCells, MovedCells, HeldNumber, asToday, storedSize}
 use Rattle.held.specs.declared.Held.{Held}
 use Rattle.held.specs.Holding.{MovedOn}
@@ -32,9 +33,10 @@ kin-fewest-one file q person one other = one ∙ sym other
 same-number : (x y : code.Answer) {a b : ℕ} → x ≡ y → a ≡ listedNumber (answerSaid x) → b ≡ listedNumber (answerSaid y) → a ≡ b
 same-number x y e one other = one ∙ ap (λ (x : code.Answer). listedNumber (answerSaid x)) e ∙ sym other
 
-pub kin-portion-one : {file : List ℕ} {q : Question} {start : Start} {out exit other : List ℕ} {a b : ℕ}
-    → PortionNumber file q start out exit a → PortionNumber file q start out other b → (a ≡ b) × (exit ≡ other)
-kin-portion-one p r = let e = portion-one (p .portioned) (r .portioned) in (same-number (p .answer) (r .answer) (e .0) (p .answers) (r .answers), e .1)
+-- a portion of any listing, chains or rings
+pub kin-listing-one : {first : Fault} {chains : List (List ℕ)} {start : Start} {out exit other : List ℕ} {a b : ℕ}
+    → ListingNumber first chains start out exit a → ListingNumber first chains start out other b → (a ≡ b) × (exit ≡ other)
+kin-listing-one p r = let e = portion-one (p .portioned) (r .portioned) in (same-number (p .answer) (r .answer) (e .0) (p .answers) (r .answers), e .1)
 
 pub kin-join-one : {file : List ℕ} {q : Question} {working working₁ working₂ out out₁ out₂ : List ℕ} {a b : ℕ}
     → JoinNumber file q working working₁ out out₁ a → JoinNumber file q working working₂ out out₂ b → (a ≡ b) × (working₁ ≡ working₂) × (out₁ ≡ out₂)

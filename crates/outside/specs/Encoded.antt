@@ -10,8 +10,12 @@ use Rattle.checking.specs.Rows.{rowView}
 use Rattle.question.specs.declared.Question.{Question}
 use Rattle.distance.specs.Answers as distance
 use Rattle.refusals.specs.Answers as answers
-use Rattle.portion.specs.Listing.{Portioned}
+use Rattle.refusals.specs.Faults.{Fault}
+use Rattle.question.specs.Asked.{askedFault, ringsAskedFault}
+use Rattle.portion.specs.Listing.{listingFor}
+use Rattle.rings.specs.Rings.{ringsFor}
 use Rattle.listing.specs.Portions.{Start}
+use Rattle.listing.specs.Answers.{PortionOf}
 use Rattle.refusals.specs.declared.Answer as code
 use Rattle.join.specs.Answers.{Joins}
 
@@ -59,11 +63,18 @@ RowNumber file person number = number ≡ length (rowView file person)
 abbrev pub FewestNumber : List ℕ → Question → ℕ → ℕ → Type 0
 FewestNumber file q person number = number ≡ hopsNumber (distance.answered file q person)
 
-pub record PortionNumber (file : List ℕ) (q : Question) (start : Start) (out out′ : List ℕ) (number : ℕ) : Type 0 where
+-- a portion of any listing, of which this is the first fault before it is looked at
+pub record ListingNumber (first : Fault) (chains : List (List ℕ)) (start : Start) (out out′ : List ℕ) (number : ℕ) : Type 0 where
   pub answer : code.Answer
-  pub portioned : Portioned file q start out out′ answer
+  pub portioned : PortionOf first chains start out out′ answer
   pub small : Small (answers.answerSaid answer)
   pub answers : number ≡ listedNumber (answers.answerSaid answer)
+
+abbrev pub PortionNumber : List ℕ → Question → Start → List ℕ → List ℕ → ℕ → Type 0
+PortionNumber file q start out out′ number = ListingNumber (askedFault file q) (listingFor file q) start out out′ number
+
+abbrev pub RingsNumber : List ℕ → Question → Start → List ℕ → List ℕ → ℕ → Type 0
+RingsNumber file q start out out′ number = ListingNumber (ringsAskedFault file q) (ringsFor file q) start out out′ number
 
 pub record JoinNumber (file : List ℕ) (q : Question) (working working′ out out′ : List ℕ) (number : ℕ) : Type 0 where
   pub answer : code.Answer

@@ -13,7 +13,7 @@ use held_cells::held_of;
 use held_cells::is_held;
 use held_cells::keep;
 ghost use Rattle.listing.specs.Portions.{startSaid};
-ghost use Rattle.outside.specs.Encoded.{CheckNumber, RowNumber, FewestNumber, PortionNumber, JoinNumber, asking};
+ghost use Rattle.outside.specs.Encoded.{CheckNumber, RowNumber, FewestNumber, PortionNumber, RingsNumber, JoinNumber, asking};
 ghost use Rattle.outside.specs.HeldCells.{HeldNumber};
 
 // Passed: n + m * 2^16 + f * 2^32.
@@ -82,6 +82,28 @@ pub extern "C" fn kin_portion(
 {
     let question = asking(from, to, hops, classes, meaning, first, last, undated);
     listed_number(portion::portion(file, question, started, bookmark, out))
+}
+
+// The rings back to the same person: From and To are one. Answers as kin_portion.
+#[no_mangle]
+pub extern "C" fn kin_rings(
+    file: &[u8],
+    from: u32,
+    to: u32,
+    hops: u32,
+    classes: u32,
+    meaning: u32,
+    first: u32,
+    last: u32,
+    undated: u32,
+    started: u32,
+    bookmark: &[u32],
+    out: &mut [u32],
+) -> u64
+    ensures { λ r. ⌜ RingsNumber (now (file .entry)) (asking from to hops classes meaning first last undated) (startSaid started (now (bookmark .entry))) (now (out .entry)) (now (out .exit)) r ⌝ }
+{
+    let question = asking(from, to, hops, classes, meaning, first, last, undated);
+    listed_number(rings::rings(file, question, started, bookmark, out))
 }
 
 // Half chains to the working cells, chains to the output. Answers as kin_portion.

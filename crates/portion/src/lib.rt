@@ -21,9 +21,12 @@ pub fn portion(
 ) -> Answer
     ensures { λ r. ⌜ Portioned (now (file .entry)) question (startSaid started (now (bookmark .entry))) (now (out .entry)) (now (out .exit)) r ⌝ }
 {
-    if let Fault::At(number, place) =
-        question::asked_room(file, question, Wanted::Chains, out.len())
-    {
+    if let Fault::At(number, place) = question::asked_room(
+        file,
+        question,
+        Wanted::Chains,
+        out.len(),
+    ) {
         return Answer::Refused { number, place };
     }
     starting::list(file, question, started, bookmark, out)

@@ -63,8 +63,11 @@ abbrev pub askedOfFault : List ℕ → Question → ℕ → Fault
 askedOfFault file q person = firstOf (fileFault file) (personFault (personCount file) q person)
 
 -- the same for so many output cells: 16 comes after the question's refusals
-abbrev pub askedRoomFault : Wanted → List ℕ → Question → ℕ → Fault
-askedRoomFault wanted file q cells = firstOf (askedFor wanted file q) (roomFault cells sound)
+abbrev pub askedForRoom : Wanted → List ℕ → Question → ℕ → Fault
+askedForRoom wanted file q cells = firstOf (askedFor wanted file q) (roomFault cells sound)
+
+abbrev pub askedRoomFault : List ℕ → Question → ℕ → Fault
+askedRoomFault = askedForRoom code.the-variants.Chains
 
 -- the numbers that a question is refused with, in this order, and those of a file and a question
 abbrev pub pairNumber : Wanted → ℕ

@@ -13,7 +13,7 @@ use refusals::Fault;
 use ways::RECORD;
 ghost use mathlib.Core.Path.{_≡_};
 ghost use Rattle.refusals.specs.Faults.{faultSaid};
-ghost use Rattle.question.specs.Asked.{askedFor, askedOfFault, askedRoomFault};
+ghost use Rattle.question.specs.Asked.{askedFor, askedOfFault, askedForRoom};
 
 // From, to, hops, classes, date meaning, first day, last day, and whether undated links count: 1 they do, 0 they are left out.
 pub struct Question {
@@ -63,7 +63,7 @@ pub fn asked_of(file: &[u8], question: Question, person: u32) -> Fault
 
 // The same as `asked`, and then 16: so many output cells have to hold a record.
 pub fn asked_room(file: &[u8], question: Question, wanted: Wanted, cells: usize) -> Fault
-    ensures { λ r. ⌜ faultSaid r ≡ askedRoomFault wanted (now (file .entry)) question cells ⌝ }
+    ensures { λ r. ⌜ faultSaid r ≡ askedForRoom wanted (now (file .entry)) question cells ⌝ }
 {
     if let Fault::At(number, place) = asked(file, question, wanted) {
         return Fault::At(number, place);

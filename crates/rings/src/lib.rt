@@ -21,8 +21,12 @@ pub fn rings(
 ) -> Answer
     ensures { λ r. ⌜ RingsPortioned (now (file .entry)) question (startSaid started (now (bookmark .entry))) (now (out .entry)) (now (out .exit)) r ⌝ }
 {
-    if let Fault::At(number, place) = question::asked_room(file, question, Wanted::Rings, out.len())
-    {
+    if let Fault::At(number, place) = question::asked_room(
+        file,
+        question,
+        Wanted::Rings,
+        out.len(),
+    ) {
         return Answer::Refused { number, place };
     }
     starting::list(file, question, started, bookmark, out)

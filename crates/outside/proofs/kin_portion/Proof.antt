@@ -1,6 +1,8 @@
 -- `kin_portion` meets its contract: the portion's answer has room in 64 bits.
 use native.Mathlib.Omega.{arith}
-use Rattle.outside.proofs.Numbered.{portion-small}
+use Rattle.question.specs.Asked.{askedFault}
+use Rattle.portion.specs.Listing.{listingFor}
+use Rattle.outside.proofs.Numbered.{portion-small, same-asked}
 use borrow.Author.Needs.{needs}
 use Rattle.outside.proofs.kin_portion.Statement.{statement}
 use Rattle.outside.proofs.kin_portion.Tie as tie
@@ -13,7 +15,7 @@ returns c =
     let at-portion = c .before .before .before .portion in
     let at-asking = c .before .before .before .before .before .asking in
     let at-start = c .before .before .before .before .before .before .before .before .before in
-    rw (← at-asking .ensures)
+    same-asked (askedFault (at-start .args .file .now)) (listingFor (at-start .args .file .now)) (at-asking .ensures)
     (record { answer = at-portion .result; portioned = at-portion .ensures; small = portion-small _ _ (at-portion .ensures) (omega (arith, at-start .good)); answers = c .listed-number .ensures })
 
 pub kin-portion-spec : {M : Type 1} → statement M
