@@ -11,9 +11,13 @@
 /* From the first person to the last in at most eight hops, over all links: the deepest search there is. */
 #define QUESTION 0, PERSONS - 1, 8, 15, 1, 1, 3652059, 1
 
+/* From the first person back to that person. */
+#define ROUND 0, 0, 8, 15, 1, 1, 3652059, 1
+
 enum {
     THREADS = 4,
     ROUNDS = 200,
+    ANSWERS = 7,
     STACK = 128 * 1024,
     PERSONS = 10,
     LINKS = PERSONS * (PERSONS - 1),
@@ -29,9 +33,9 @@ static uint8_t file[LENGTH];
 
 /* What a caller lends, and what it is told. */
 struct caller {
-    uint64_t answers[6];
+    uint64_t answers[ANSWERS];
     uint32_t held[KIN_HELD_CELLS];
-    uint32_t portioned[OUTPUT], moved[OUTPUT], joined[OUTPUT], working[WORKING];
+    uint32_t portioned[OUTPUT], rings[OUTPUT], moved[OUTPUT], joined[OUTPUT], working[WORKING];
 };
 
 static struct caller alone, together[THREADS];
@@ -64,6 +68,7 @@ static void ask_everything(struct caller *caller) {
     caller->answers[3] = kin_portion(file, LENGTH, QUESTION, 0, NULL, 0, caller->portioned, OUTPUT);
     caller->answers[4] = kin_held(caller->held, KIN_HELD_CELLS, file, LENGTH, caller->moved, OUTPUT);
     caller->answers[5] = kin_join(file, LENGTH, QUESTION, caller->working, WORKING, caller->joined, OUTPUT);
+    caller->answers[6] = kin_rings(file, LENGTH, ROUND, 0, NULL, 0, caller->rings, OUTPUT);
 }
 
 /* Answers NULL if every round told what a caller alone is told. */
@@ -79,7 +84,7 @@ static void *ask_again_and_again(void *lent) {
 
 static int refused_alone(void) {
     int refused = 0;
-    for (int answer = 0; answer < 6; answer++) refused += kin_refused(alone.answers[answer]);
+    for (int answer = 0; answer < ANSWERS; answer++) refused += kin_refused(alone.answers[answer]);
     return refused;
 }
 
