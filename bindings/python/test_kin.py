@@ -6,6 +6,7 @@ import itertools
 import os
 import pickle
 import random
+import re
 import struct
 import subprocess
 import sys
@@ -523,6 +524,12 @@ class Package(Case):
         command = [sys.executable, "-c", "import kin"]
         tried = subprocess.run(command, cwd=Path(__file__).parent, env=elsewhere, capture_output=True, text=True)
         self.assertIn("ImportError: /nowhere/libkin.so cannot be loaded: run bindings/python/build.sh", tried.stderr)
+
+    def test_the_rings_of_the_front_page(self):
+        page = (ROOT / "README.md").read_text()
+        command, shown = re.search(r"\n    (.*kin\.rings.*)\n\nprints\n\n    (.*)\n", page).groups()
+        printed = subprocess.run(command, shell=True, cwd=ROOT, stdout=subprocess.PIPE, check=True, text=True).stdout
+        self.assertEqual(printed, shown + "\n")
 
     def test_the_version_is_the_header_s(self):
         header = (ROOT / "include" / "kin.h").read_text().splitlines()
