@@ -93,12 +93,13 @@ static void test_portion(void) {
 }
 
 static void test_rings(void) {
-    uint32_t output[39], next[20];
-    set_untouched(output, 39);
+    uint32_t output[40], next[20];
+    set_untouched(output, 40);
     set_untouched(next, 20);
     expect_listed("rings, room 3", kin_rings(file, length, R, 0, NULL, 0, output, 39), 3, 0);
     for (size_t ring = 0; ring < 3; ring++) expect_record("ring", output + ring * KIN_RECORD_CELLS, RINGS[ring]);
-    expect_untouched("behind the rings", output + 30, 9);
+    expect_untouched("behind the rings", output + 30, 10);
+    expect_listed("rings, room 4", kin_rings(file, length, R, 0, NULL, 0, output, 40), 4, 1);
     expect_listed("after the third", kin_rings(file, length, R, 1, RINGS[2], KIN_RECORD_CELLS, next, 20), 1, 1);
     expect_record("fourth", next, RINGS[3]);
     expect_untouched("behind the fourth", next + KIN_RECORD_CELLS, 10);

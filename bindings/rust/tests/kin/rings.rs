@@ -137,6 +137,10 @@ fn a_portion_of_rings_fills_its_room_and_leaves_the_other_cells() {
     assert_eq!(persons_in(&output, 3), [FIRST, SECOND, THIRD]);
     assert_eq!(output[30..], [UNTOUCHED; 9]);
 
+    let mut output = [UNTOUCHED; 40];
+    let answer = ring_portion(SIX_PERSONS, five_hops(), Start::Fresh, &mut output);
+    assert_eq!(answer, Ok(listed(4, true)));
+
     let bookmark = [2, 2, 3, 2, 0, 0, 0, 0, 0, 0];
     let mut output = [UNTOUCHED; 20];
     let after = Start::After(&bookmark);
