@@ -1,6 +1,6 @@
 #!/usr/bin/env bash
 # Times the parts of the library, each against the same in plain C or C++, and measures the stack: the first two tables of
-# docs/MEASUREMENTS.md. The static library and target/bin/chains have to stand. Two to three minutes, and more where the search has
+# docs/MEASUREMENTS.md. The static library and target/bin/chains have to stand. Three to four minutes, and more where the search has
 # to be proved first.
 #
 #   bash bench/parts.sh [--write]
@@ -13,11 +13,11 @@ out=target/bench
 mkdir -p "$out"
 load() { cut -d ' ' -f 1 /proc/loadavg; }
 before=$(load)
-for part in check graph search portion join; do
+for part in check graph search portion rings join; do
   echo "$part" >&2
   bash "bench/$part/run.sh" > "$out/$part.md"
 done
-awk 'NR == FNR || FNR > 2' "$out"/{check,graph,search,portion,join}.md > "$out/parts.md"
+awk 'NR == FNR || FNR > 2' "$out"/{check,graph,search,portion,rings,join}.md > "$out/parts.md"
 told="Load of the machine, $(nproc) processors: $before before, $(load) after; 1 of it is the run itself."
 printf '\n%s\n' "$told" >> "$out/parts.md"
 bash bench/stack/run.sh > "$out/stack.md"

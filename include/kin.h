@@ -1,5 +1,6 @@
 /*
- * The library `outside` (target/staticlib/liboutside.a) for C and C++: every chain of kinship between two persons of a link file.
+ * The library `outside` (target/staticlib/liboutside.a) for C and C++: every chain of kinship between two persons of a link file, and
+ * every ring that leads back to one.
  *
  * Every function is total: any bytes, any numbers get an answer or a refusal, and no caller has to check anything beforehand.
  *
@@ -9,14 +10,15 @@
  * Question. Its eight numbers are eight arguments, always in this order: from, to (persons, counted from 0), hops (1 to 8), classes
  * (the sum of those that count: 1 parent, child or sibling, 2 spouse, 4 same person, 8 named together), meaning (1 the day of the
  * event, 2 the day of registration), first and last day (1 to 3652059), undated (1 if links without a day count, 0 if they are left
- * out).
+ * out). For chains from and to are two persons, for rings one: from and to are the same.
  *
- * Record. A chain is KIN_RECORD_CELLS cells: its hops, then hops + 1 persons, then zeros. An output has room for its length divided
- * by ten, rounded down.
+ * Record. A chain is KIN_RECORD_CELLS cells: its hops, then hops + 1 persons, then zeros. So is a ring, which has its person first and
+ * again at its end. An output has room for its length divided by ten, rounded down.
  *
  * Started. 0 is a fresh start, any other number is started. On a fresh start the bookmark isn't looked at, of whatever length.
  *
- * Held listing. KIN_HELD_CELLS lent cells: the eight numbers of the question, started, the record of the last chain handed over.
+ * Held listing. KIN_HELD_CELLS lent cells: the eight numbers of the question, started, the record of the last chain handed over. It
+ * lists chains; who lists rings keeps the record of the last one.
  * One that moved on has 1 in its started cell; otherwise that cell stays as it was. One stored before version 2, when a question had
  * no undated, has KIN_STORED_HELD_CELLS cells: the seven other numbers, started, the record. It is lent as it was stored, is read with
  * undated 1, never gets 20, and is moved on in its own cells.
@@ -40,9 +42,9 @@
 #include <stddef.h>
 #include <stdint.h>
 
-#define KIN_VERSION "2.0.0"
+#define KIN_VERSION "2.1.0"
 #define KIN_VERSION_MAJOR 2
-#define KIN_VERSION_MINOR 0
+#define KIN_VERSION_MINOR 1
 #define KIN_VERSION_PATCH 0
 
 #ifdef __cplusplus
@@ -92,6 +94,18 @@ uint64_t kin_portion(const uint8_t *file, size_t file_length,
                      uint32_t *output, size_t output_length);
 
 /*
+ * Lists the first rings of a person after the bookmark, or from the beginning if started is 0, in dictionary order, as many as the
+ * output has room for. A ring is 2 to hops admitted hops from the person back to that person, all others different from it and from
+ * each other; there is none in 1 hop. The person is both from and to. Answers as kin_portion does.
+ * Refusals 1 to 10, 12 to 17, 20 and 21. Changes the first 10 * count cells of the output and no other lent cell; on a refusal none.
+ */
+uint64_t kin_rings(const uint8_t *file, size_t file_length,
+                   uint32_t from, uint32_t to, uint32_t hops, uint32_t classes,
+                   uint32_t meaning, uint32_t first, uint32_t last, uint32_t undated,
+                   uint32_t started, const uint32_t *bookmark, size_t bookmark_length,
+                   uint32_t *output, size_t output_length);
+
+/*
  * Moves a held listing on by a portion. Answers and refuses as kin_portion does, a stored one as with undated 1. If it is lent
  * neither KIN_HELD_CELLS nor KIN_STORED_HELD_CELLS cells it answers 2^63, a refusal of number 0, before anything else is looked at.
  * Changes the first 10 * count cells of the output and, with chains written, the started cell (to 1) and the record (to the last
@@ -117,7 +131,7 @@ static inline int kin_refused(uint64_t answer) { return (int)(answer >> 63); }
 static inline uint32_t kin_refusal_number(uint64_t answer) { return (uint32_t)(answer >> 32) & 0x7fffffffu; }
 static inline uint32_t kin_refusal_place(uint64_t answer) { return (uint32_t)answer; }
 
-/* What a refusal number means, in the words of docs/REFUSALS.md, which has 0 to 20; empty for any other number. */
+/* What a refusal number means, in the words of docs/REFUSALS.md, which has 0 to 21; empty for any other number. */
 static inline const char *kin_refusal_words(uint32_t number) {
     static const char *const words[] = {
         "The held listing is neither of 19 cells nor, as one stored before, of 18.",
@@ -138,11 +152,12 @@ static inline const char *kin_refusal_words(uint32_t number) {
         "The classes asked for are not a sum of classes, 1 to 15.",
         "The date meaning asked for is neither 1, the day of the event, nor 2, the day of registration.",
         "The first day asked for is 0, the last day is above 3,652,059, or the first day is above the last.",
-        "The output has fewer than ten cells, so there is no room for one chain.",
-        "The bookmark is not ten cells, or it is not the record of a chain of this listing.",
+        "The output has fewer than ten cells, so there is no room for one chain or ring.",
+        "The bookmark is not ten cells, or it is not the record of a chain or ring of this listing.",
         "The working cells hold fewer records than there are half chains.",
         "The program's input is shorter than 32 bytes, so there is no whole question in it.",
-        "The number that says whether undated links count is neither 1, they count, nor 0, they are left out."
+        "The number that says whether undated links count is neither 1, they count, nor 0, they are left out.",
+        "From and To are different persons, and rings lead back to the same one."
     };
     return number < sizeof words / sizeof *words ? words[number] : "";
 }
@@ -152,7 +167,7 @@ static inline uint32_t kin_persons(uint64_t answer) { return (uint32_t)answer & 
 static inline uint32_t kin_links(uint64_t answer) { return (uint32_t)answer >> 16; }
 static inline uint32_t kin_feeds(uint64_t answer) { return (uint32_t)(answer >> 32); }
 
-/* The answer of kin_portion, kin_held or kin_join, if it is no refusal. */
+/* The answer of kin_portion, kin_rings, kin_held or kin_join, if it is no refusal. */
 static inline size_t kin_count(uint64_t answer) { return (size_t)(answer & 0x3fffffffffffffffu); }
 static inline int kin_ended(uint64_t answer) { return (int)(answer >> 62 & 1); }
 

@@ -61,6 +61,10 @@ lists_six_persons() {
   "$@" < examples/six_persons.klf > "$work/printed" && diff crates/chains/stdout "$work/printed"
 }
 
+lists_rings_of_person_2() {
+  "$@" < examples/six_persons.klf > "$work/printed" && printf '%s\n' '3: 2 1 3 2' '2: 2 3 2' '4: 2 3 5 0 2' 'end 3' | diff - "$work/printed"
+}
+
 # Every refusal as docs/REFUSALS.md has it, one a line: the number, and the words. What it says of number 0 stands behind the table.
 refusal_words() {
   sed -n 's/^> /0 /p' docs/REFUSALS.md
@@ -148,6 +152,9 @@ holds "threads from C" threads_are_told_the_same
 holds "refusals in the header" has_the_document_s_words
 holds "C example, built" compile ask cc -std=c99 examples/ask.c
 example "C example" "$work/ask"
+holds "C example of rings, built" compile rings cc -std=c99 examples/rings.c
+holds "C example of rings: the six-person file" lists_rings_of_person_2 "$work/rings"
+holds "C example of rings: an empty file" refuses_nothing_at_all "$work/rings"
 
 echo "$passed passed, $failed failed"
 [ "$failed" -eq 0 ]

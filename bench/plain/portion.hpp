@@ -1,4 +1,4 @@
-// A portion from the file's bytes to the records: the library's, and the same in plain C and C++.
+// A portion of chains or rings from the file's bytes to the records: the library's, and the same in plain C and C++.
 #pragma once
 #include "check.h"
 #include "graph.h"
@@ -34,7 +34,13 @@ inline uint64_t ours(const Call &c, Cells &out) {
                        q.undated, c.bookmark ? 1 : 0, c.bookmark, c.bookmark ? RECORD : 0, out.data(), out.size());
 }
 
-// It does not test whether the bookmark is a chain.
+inline uint64_t our_rings(const Call &c, Cells &out) {
+    const question &q = c.q;
+    return kin_rings(c.file.data(), c.file.size(), q.from, q.to, q.hops, q.classes, q.meaning, q.first, q.last,
+                     q.undated, c.bookmark ? 1 : 0, c.bookmark, c.bookmark ? RECORD : 0, out.data(), out.size());
+}
+
+// It lists rings where From and To are the same. It does not test whether the bookmark is a chain or a ring.
 template <Pruned pruned = Pruned::by_barriers> uint64_t plain(const Call &c, Cells &out) {
     uint64_t verdict = plain_check(c.file.data(), c.file.size());
     if (verdict & REFUSED) return verdict;

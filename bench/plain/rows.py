@@ -5,7 +5,7 @@ import sys
 
 from figures import Round, ratio_of, row, shown, time_of
 
-HEAD = ["What", "Chains", "Ratio", "Ours", "The other", "Ratios of the rounds", "Goal"]
+HEAD = ["What", "Chains or rings", "Ratio", "Ours", "The other", "Ratios of the rounds", "Goal"]
 
 
 def verdict(goal, ratio):

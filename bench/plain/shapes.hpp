@@ -86,6 +86,18 @@ inline Links many_into_dead(int many) {
     return l;
 }
 
+// The last person made one with person 0: each chain from 0 to the last person that has two hops or more is a ring of 0, and there
+// are no others.
+inline Links closed(Links links) {
+    const int last = int(links.size()) - 1;
+    for (int p = 0; p < last; ++p) {
+        links[p].erase(0);
+        if (links[p].erase(last) && p != 0) link(links, p, 0);
+    }
+    links.pop_back();
+    return links;
+}
+
 // Families over generations: every tie is linked both ways, couples, parents and children, siblings and half siblings. After a
 // marriage every second one may marry again, so that many persons have several marriages; nobody marries a sibling. Children are
 // born until the next one would pass a limit of the file.

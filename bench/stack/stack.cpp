@@ -53,6 +53,7 @@ static void row(std::vector<std::string> cells) {
 }
 
 static const Cells BOOKMARK{8, 0, 31, 32, 33, 34, 35, 36, 37, 63}, NO_CHAIN{8, 0, 0, 0, 0, 0, 0, 0, 0, 63};
+static const Cells RING{8, 0, 31, 32, 33, 34, 35, 36, 37, 0}, NO_RING{8, 0, 1, 2, 3, 4, 5, 6, 6, 0};
 static Cells out(400), working(100000);
 
 // The calls.
@@ -63,6 +64,10 @@ static uint64_t fewest(const Bytes &file, const question &q) {
 
 static uint64_t portion(const Bytes &file, const question &q, const Cells *bookmark) {
     return ours({file, q, bookmark ? bookmark->data() : nullptr}, out);
+}
+
+static uint64_t rings(const Bytes &file, uint32_t hops, const Cells *bookmark) {
+    return our_rings({file, asked(0, 0, hops), bookmark ? bookmark->data() : nullptr}, out);
 }
 
 static uint64_t held(const Bytes &file, const question &q, const Cells *record) {
@@ -99,6 +104,9 @@ static void rows() {
          cell(17, [&] { return portion(dense, eight, &NO_CHAIN); }),
          answered([&] { return portion(dense, one, nullptr); }), answered([&] { return portion(dense, four, nullptr); }),
          answered([&] { return portion(dense, eight, nullptr); }), answered([&] { return portion(dense, eight, &BOOKMARK); })});
+    row({"rings", cell(1, [&] { return rings(none, 8, nullptr); }), cell(17, [&] { return rings(dense, 8, &NO_RING); }),
+         answered([&] { return rings(dense, 1, nullptr); }), answered([&] { return rings(dense, 4, nullptr); }),
+         answered([&] { return rings(dense, 8, nullptr); }), answered([&] { return rings(dense, 8, &RING); })});
     row({"held listing", cell(1, [&] { return held(none, eight, nullptr); }),
          cell(17, [&] { return held(dense, eight, &NO_CHAIN); }),
          answered([&] { return held(dense, one, nullptr); }), answered([&] { return held(dense, four, nullptr); }),

@@ -11,11 +11,16 @@
 /* The same from day 700001 on: of the three chains those two are left that begin with an undated link. Undated is to follow. */
 #define LATE 0, 5, 4, 15, 1, 700001, 3652059
 
+/* The rings of person 2 in at most five hops. */
+#define R 2, 2, 5, 15, 1, 1, 3652059, 1
+
 enum { UNTOUCHED = 77777 };
 
 static const uint32_t FIRST[KIN_RECORD_CELLS] = {3, 0, 1, 3, 5};
 static const uint32_t SECOND[KIN_RECORD_CELLS] = {4, 0, 2, 1, 3, 5};
 static const uint32_t THIRD[KIN_RECORD_CELLS] = {3, 0, 2, 3, 5};
+
+static const uint32_t RINGS[4][KIN_RECORD_CELLS] = {{3, 2, 1, 3, 2}, {5, 2, 1, 3, 5, 0, 2}, {2, 2, 3, 2}, {4, 2, 3, 5, 0, 2}};
 
 static uint8_t file[KIN_LONGEST_FILE + 1];
 static size_t length;
@@ -85,6 +90,37 @@ static void test_portion(void) {
     expect_untouched("refused", next, 20);
     expect_listed("after the second", kin_portion(file, length, Q, 1, SECOND, KIN_RECORD_CELLS, next, 20), 1, 1);
     expect_record("third", next, THIRD);
+}
+
+static void test_rings(void) {
+    uint32_t output[40], next[20];
+    set_untouched(output, 40);
+    set_untouched(next, 20);
+    expect_listed("rings, room 3", kin_rings(file, length, R, 0, NULL, 0, output, 39), 3, 0);
+    for (size_t ring = 0; ring < 3; ring++) expect_record("ring", output + ring * KIN_RECORD_CELLS, RINGS[ring]);
+    expect_untouched("behind the rings", output + 30, 10);
+    expect_listed("rings, room 4", kin_rings(file, length, R, 0, NULL, 0, output, 40), 4, 1);
+    expect_listed("after the third", kin_rings(file, length, R, 1, RINGS[2], KIN_RECORD_CELLS, next, 20), 1, 1);
+    expect_record("fourth", next, RINGS[3]);
+    expect_untouched("behind the fourth", next + KIN_RECORD_CELLS, 10);
+    expect_listed("after the fourth", kin_rings(file, length, R, 1, RINGS[3], KIN_RECORD_CELLS, output, 39), 0, 1);
+    expect_listed("in one hop", kin_rings(file, length, 2, 2, 1, 15, 1, 1, 3652059, 1, 0, NULL, 0, output, 39), 0, 1);
+    expect_listed("undated left out", kin_rings(file, length, 2, 2, 5, 15, 1, 1, 3652059, 0, 0, NULL, 0, output, 39), 2, 1);
+}
+
+static void test_refused_rings(void) {
+    uint32_t output[20];
+    set_untouched(output, 20);
+    expect_refused("187 bytes", kin_rings(file, 187, Q, 0, NULL, 0, output, 9), 3, 0);
+    expect_refused("from 6", kin_rings(file, length, 6, 7, 0, 15, 1, 1, 3652059, 1, 0, NULL, 0, output, 20), 10, 0);
+    expect_refused("to 6", kin_rings(file, length, 2, 6, 0, 15, 1, 1, 3652059, 1, 0, NULL, 0, output, 20), 10, 1);
+    expect_refused("two persons", kin_rings(file, length, 2, 3, 0, 15, 1, 1, 3652059, 1, 0, NULL, 0, output, 20), 21, 0);
+    expect_refused("no hops", kin_rings(file, length, 2, 2, 0, 0, 1, 1, 3652059, 1, 0, NULL, 0, output, 20), 12, 0);
+    expect_refused("undated 2", kin_rings(file, length, 2, 2, 5, 15, 1, 1, 3652059, 2, 1, NULL, 0, output, 9), 20, 0);
+    expect_refused("nine output cells", kin_rings(file, length, R, 1, NULL, 0, output, 9), 16, 0);
+    expect_refused("bookmark of nine cells", kin_rings(file, length, R, 1, RINGS[0], 9, output, 20), 17, 0);
+    expect_refused("bookmark that is a chain", kin_rings(file, length, R, 1, FIRST, KIN_RECORD_CELLS, output, 20), 17, 0);
+    expect_untouched("refused rings", output, 20);
 }
 
 static void test_undated(void) {
@@ -167,7 +203,7 @@ static void test_join(void) {
 
 /* That the words are those of docs/REFUSALS.md, line by line, is asked of what refusal_words.c prints. */
 static void test_refusal_words(void) {
-    expect("no words for 21", (uint64_t)*kin_refusal_words(21), 0);
+    expect("no words for 22", (uint64_t)*kin_refusal_words(22), 0);
     expect("no words for the highest number", (uint64_t)*kin_refusal_words(UINT32_MAX), 0);
 }
 
@@ -182,6 +218,8 @@ int main(void) {
     test_check();
     test_row_and_fewest();
     test_portion();
+    test_rings();
+    test_refused_rings();
     test_undated();
     test_held();
     test_held_of_another_size();

@@ -11,9 +11,15 @@
 /* From the first person to the last in at most eight hops, over all links: the deepest search there is. */
 #define QUESTION 0, PERSONS - 1, 8, 15, 1, 1, 3652059, 1
 
+/* From the first person back to that person. */
+#define ROUND 0, 0, 8, 15, 1, 1, 3652059, 1
+
 enum {
     THREADS = 4,
-    ROUNDS = 200,
+    /* The join takes as long as a hundred of the others, so that the threads would hardly meet in those: it is asked less often. */
+    ROUNDS = 10000,
+    ROUNDS_A_JOIN = 100,
+    ANSWERS = 6,
     STACK = 128 * 1024,
     PERSONS = 10,
     LINKS = PERSONS * (PERSONS - 1),
@@ -27,11 +33,21 @@ enum {
 
 static uint8_t file[LENGTH];
 
-/* What a caller lends, and what it is told. */
-struct caller {
-    uint64_t answers[6];
+/* What a caller lends, and what it is told: by the join, and by the others. */
+struct join {
+    uint64_t answer;
+    uint32_t output[OUTPUT], working[WORKING];
+};
+
+struct others {
+    uint64_t answers[ANSWERS];
     uint32_t held[KIN_HELD_CELLS];
-    uint32_t portioned[OUTPUT], moved[OUTPUT], joined[OUTPUT], working[WORKING];
+    uint32_t portioned[OUTPUT], rings[OUTPUT], moved[OUTPUT];
+};
+
+struct caller {
+    struct join join;
+    struct others others;
 };
 
 static struct caller alone, together[THREADS];
@@ -54,16 +70,21 @@ static void make_file(void) {
     }
 }
 
-static void ask_everything(struct caller *caller) {
+static void ask_join(struct join *told) {
+    memset(told, 0, sizeof *told);
+    told->answer = kin_join(file, LENGTH, QUESTION, told->working, WORKING, told->output, OUTPUT);
+}
+
+static void ask_others(struct others *told) {
     const uint32_t held[KIN_HELD_CELLS] = {QUESTION, 0};
-    memset(caller, 0, sizeof *caller);
-    memcpy(caller->held, held, sizeof held);
-    caller->answers[0] = kin_check(file, LENGTH);
-    caller->answers[1] = kin_row(file, LENGTH, 1);
-    caller->answers[2] = kin_fewest(file, LENGTH, QUESTION, 1);
-    caller->answers[3] = kin_portion(file, LENGTH, QUESTION, 0, NULL, 0, caller->portioned, OUTPUT);
-    caller->answers[4] = kin_held(caller->held, KIN_HELD_CELLS, file, LENGTH, caller->moved, OUTPUT);
-    caller->answers[5] = kin_join(file, LENGTH, QUESTION, caller->working, WORKING, caller->joined, OUTPUT);
+    memset(told, 0, sizeof *told);
+    memcpy(told->held, held, sizeof held);
+    told->answers[0] = kin_check(file, LENGTH);
+    told->answers[1] = kin_row(file, LENGTH, 1);
+    told->answers[2] = kin_fewest(file, LENGTH, QUESTION, 1);
+    told->answers[3] = kin_portion(file, LENGTH, QUESTION, 0, NULL, 0, told->portioned, OUTPUT);
+    told->answers[4] = kin_rings(file, LENGTH, ROUND, 0, NULL, 0, told->rings, OUTPUT);
+    told->answers[5] = kin_held(told->held, KIN_HELD_CELLS, file, LENGTH, told->moved, OUTPUT);
 }
 
 /* Answers NULL if every round told what a caller alone is told. */
@@ -71,15 +92,16 @@ static void *ask_again_and_again(void *lent) {
     struct caller *caller = (struct caller *)lent;
     void *different = NULL;
     for (int round = 0; round < ROUNDS; round++) {
-        ask_everything(caller);
+        if (round % ROUNDS_A_JOIN == 0) ask_join(&caller->join);
+        ask_others(&caller->others);
         if (memcmp(caller, &alone, sizeof alone) != 0) different = caller;
     }
     return different;
 }
 
 static int refused_alone(void) {
-    int refused = 0;
-    for (int answer = 0; answer < 6; answer++) refused += kin_refused(alone.answers[answer]);
+    int refused = kin_refused(alone.join.answer);
+    for (int answer = 0; answer < ANSWERS; answer++) refused += kin_refused(alone.others.answers[answer]);
     return refused;
 }
 
@@ -88,7 +110,8 @@ int main(void) {
     pthread_attr_t with_stack;
     int faults = 0;
     make_file();
-    ask_everything(&alone);
+    ask_join(&alone.join);
+    ask_others(&alone.others);
     if (refused_alone()) return 1;
     if (pthread_attr_init(&with_stack) || pthread_attr_setstacksize(&with_stack, STACK)) return 1;
     for (int thread = 0; thread < THREADS; thread++) {

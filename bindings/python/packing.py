@@ -22,7 +22,7 @@ METADATA = f"""\
 Metadata-Version: 2.1
 Name: kin
 Version: {VERSION}
-Summary: Every chain of kinship between two persons in a file of links, from the proved library
+Summary: Every chain of kinship between two persons in a file of links, and every ring of one, from the proved library
 Requires-Python: >=3.9
 """
 

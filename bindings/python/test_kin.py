@@ -6,6 +6,7 @@ import itertools
 import os
 import pickle
 import random
+import re
 import struct
 import subprocess
 import sys
@@ -21,6 +22,10 @@ SIX_PERSONS = (ROOT / "examples" / "six_persons.klf").read_bytes()
 Q = kin.Question(0, 5, 4)
 FIRST, SECOND, THIRD = (0, 1, 3, 5), (0, 2, 1, 3, 5), (0, 2, 3, 5)
 
+# The rings of person 2; in four hops there is no second one.
+R = kin.Question.back_to(2, 5)
+RINGS = [(2, 1, 3, 2), (2, 1, 3, 5, 0, 2), (2, 3, 2), (2, 3, 5, 0, 2)]
+
 # The question and a held listing after its second chain, as version 1.0.0 pickled them.
 PICKLED_BEFORE = (
     b"\x80\x04\x95\xbd\x00\x00\x00\x00\x00\x00\x00\x8c\x03kin\x94\x8c\x08Question\x94\x93\x94"
@@ -33,6 +38,10 @@ PICKLED_BEFORE = (
 
 def listed(question, file=SIX_PERSONS, **how):
     return list(kin.chains(file, question, **how))
+
+
+def rings_listed(question, file=SIX_PERSONS, **how):
+    return list(kin.rings(file, question, **how))
 
 
 def link_file(rows, feeds):
@@ -80,14 +89,24 @@ def admitted(link, feeds, question):
     return feeds[feed][1] == question.meaning and question.first_day <= day <= question.last_day
 
 
-def chains_by_trying(rows, feeds, question):
-    """The chains by their definition: every sequence of different persons is tried, and kept if each hop is admitted."""
+def by_trying(rows, feeds, question, fewest_passed):
+    """Every sequence of different persons is tried between the two ends, and kept if each hop is admitted."""
     hops = {(owner, link[0]) for owner, row in enumerate(rows) for link in row if admitted(link, feeds, question)}
     ends = (question.from_person, question.to_person)
     others = [person for person in range(len(rows)) if person not in ends]
-    middles = itertools.chain(*(itertools.permutations(others, passed) for passed in range(question.hops)))
+    middles = itertools.chain(*(itertools.permutations(others, passed) for passed in range(fewest_passed, question.hops)))
     tried = [(ends[0], *middle, ends[1]) for middle in middles]
     return sorted(chain for chain in tried if hops.issuperset(zip(chain, chain[1:])))
+
+
+def chains_by_trying(rows, feeds, question):
+    """The chains by their definition: from one end to the other, also at once."""
+    return by_trying(rows, feeds, question, 0)
+
+
+def rings_by_trying(rows, feeds, question):
+    """The rings by their definition: both ends are the same person, and one other at least is passed."""
+    return by_trying(rows, feeds, question, 1)
 
 
 class Case(unittest.TestCase):
@@ -226,6 +245,7 @@ class Shown(Case):
             (kin.links_in(kin.row_view(SIX_PERSONS, 1))[0], "Link(target=3, day=700100, feed=0, kind=1)"),
             (kin.portion(SIX_PERSONS, Q, 1), "Portion(chains=[(0, 1, 3, 5)], ended=False)"),
             (kin.join(SIX_PERSONS, Q._replace(hops=1)), "Joined(portion=Portion(chains=[], ended=True), half_chains=[(5,)])"),
+            (kin.ring_portion(SIX_PERSONS, R, 1), "RingPortion(rings=[(2, 1, 3, 2)], ended=False)"),
             (kin.Refused(10, 1), "Refused(number=10, place=1)"),
             (kin.DateMeaning.EVENT, "<DateMeaning.EVENT: 1>"),
             (kin.Classes.ALL, "<Classes.ALL: 15>"),
@@ -250,6 +270,14 @@ class Shown(Case):
         self.assertEqual(repr(to_come), f"Chains({Q}, after=(0, 1, 3, 5))")
         self.assertEqual(list(kin.chains(SIX_PERSONS, Q, after=to_come.last)), [SECOND, THIRD])
         self.assertEqual((list(to_come), to_come.last), ([SECOND, THIRD], THIRD))
+
+    def test_rings_show_how_far_they_have_come(self):
+        to_come = kin.rings(SIX_PERSONS, R, 1)
+        self.assertEqual((repr(to_come), to_come.question), (f"Rings({R}, after=None)", R))
+        self.assertEqual((next(to_come), to_come.last), (RINGS[0], RINGS[0]))
+        self.assertEqual(repr(to_come), f"Rings({R}, after=(2, 1, 3, 2))")
+        self.assertEqual(rings_listed(R, after=to_come.last), RINGS[1:])
+        self.assertEqual((list(to_come), to_come.last), (RINGS[1:], RINGS[3]))
 
     def test_cells_that_make_no_sense(self):
         for cells in ([4_000_000_000] * 19, [3] * 19, [0] * 19):
@@ -301,7 +329,7 @@ class Refusals(Case):
     def test_meanings_are_the_document_s(self):
         cells = [line.split("|") for line in (ROOT / "docs" / "REFUSALS.md").read_text().splitlines()]
         lines = {int(line[1]): line[2].strip() for line in cells if len(line) > 2 and line[1].strip().isdigit()}
-        self.assertEqual(list(lines), list(range(1, 21)))
+        self.assertEqual(list(lines), list(range(1, 22)))
         for number, meaning in lines.items():
             refused = kin.Refused(number, 7)
             self.assertEqual(refused.meaning, meaning)
@@ -309,7 +337,7 @@ class Refusals(Case):
         self.assertEqual(len(kin.MEANINGS), len(lines))
 
     def test_numbers_without_a_line(self):
-        for number in (0, 21):
+        for number in (0, 22):
             self.assertEqual(str(kin.Refused(number, 0)), f"refused {number} at 0")
 
     def test_a_refusal_survives_being_put_away(self):
@@ -319,6 +347,105 @@ class Refusals(Case):
     def test_a_traceback_names_it_as_it_is_had(self):
         told = traceback.format_exception_only(kin.Refused, kin.Refused(11, 0))
         self.assertEqual(told, ["kin.Refused: refused 11 at 0: From and To are the same person.\n"])
+
+
+class Rings(Case):
+    def test_listings(self):
+        first, second, third, fourth = RINGS
+        for question, right in (
+            (R, RINGS),
+            (R._replace(hops=8), RINGS),
+            (R._replace(hops=4), [first, third, fourth]),
+            (R._replace(hops=2), [third]),
+            (R._replace(hops=1), []),
+            (R._replace(undated=False), [first, third]),
+            (R._replace(classes=kin.Classes.SPOUSE), []),
+            (R._replace(meaning=kin.DateMeaning.REGISTRATION), []),
+            (R._replace(first_day=datetime.date(1917, 10, 24)), [third, fourth]),
+            (R._replace(last_day=700_299), []),
+            (kin.Question.back_to(0, 4), [(0, 1, 3, 5, 0), (0, 2, 3, 5, 0)]),
+            (kin.Question.back_to(4, 8), []),
+        ):
+            with self.subTest(question):
+                self.assertEqual(rings_listed(question), right)
+
+    def test_the_question_names_one_person(self):
+        self.assertEqual(R, kin.Question(2, 2, 5))
+        self.assertIsInstance(R, kin.Question)
+        others = {"classes": 3, "meaning": 2, "first_day": 4, "last_day": datetime.date(1, 1, 5), "undated": False}
+        self.assertEqual(kin.Question.back_to(2, 5, **others), kin.Question(2, 2, 5, **others))
+        self.assertRaises(TypeError, kin.Question.back_to, 2, 5, to_person=3)
+
+    def test_portions(self):
+        self.assertEqual(kin.ring_portion(SIX_PERSONS, R, 3), (RINGS[:3], False))
+        self.assertEqual(kin.ring_portion(SIX_PERSONS, R, 4), (RINGS, True))
+        self.assertEqual(kin.ring_portion(SIX_PERSONS, R, 2, RINGS[1]), (RINGS[2:], True))
+        self.assertEqual(kin.ring_portion(SIX_PERSONS, R, 1, after=list(RINGS[3])), ([], True))
+        self.assertEqual(kin.ring_portion(memoryview(SIX_PERSONS), R), kin.ring_portion(bytearray(SIX_PERSONS), R))
+
+    def test_every_room_gives_the_same_rings(self):
+        rows, feeds = everybody_linked(5), [(1, 1)]
+        right = rings_by_trying(rows, feeds, R)
+        self.assertEqual(len(right), 4 + 12 + 24 + 24)
+        for room in range(1, len(right) + 2):
+            self.assertEqual(rings_listed(R, link_file(rows, feeds), room=room), right)
+
+    def test_rings_go_on_after_each_of_them(self):
+        file = link_file(everybody_linked(5), [(1, 1)])
+        question = kin.Question.back_to(0, 4)
+        right = rings_listed(question, file)
+        self.assertEqual(len(right), 4 + 12 + 24)
+        for place, ring in enumerate(right):
+            self.assertEqual(rings_listed(question, file, room=2, after=ring), right[place + 1:])
+
+    def test_questions_that_are_refused(self):
+        for question, number, place in (
+            (R._replace(from_person=6), 10, 0),
+            (R._replace(to_person=6), 10, 1),
+            (kin.Question.back_to(6, 5), 10, 0),
+            (Q, 21, 0),
+            (Q._replace(hops=0), 21, 0),
+            (R._replace(hops=0), 12, 0),
+            (R._replace(hops=9), 12, 0),
+            (R._replace(classes=16), 13, 0),
+            (R._replace(meaning=3), 14, 0),
+            (R._replace(first_day=0), 15, 0),
+            (R._replace(undated=2), 20, 0),
+        ):
+            with self.subTest(question):
+                self.assert_refused(number, place, lambda: rings_listed(question))
+                self.assert_refused(number, place, lambda: kin.ring_portion(SIX_PERSONS, question, 0, ()))
+
+    def test_no_room_comes_before_the_bookmark_and_both_behind_the_file(self):
+        self.assert_refused(16, 0, lambda: kin.ring_portion(SIX_PERSONS, R, 0, ()))
+        self.assert_refused(16, 0, lambda: rings_listed(R, room=0))
+        self.assert_refused(3, 0, lambda: kin.ring_portion(SIX_PERSONS[:187], Q, 0, ()))
+
+    def test_bookmarks_that_are_no_ring_of_the_person(self):
+        chain, of_another, too_long, through_the_person = (2, 3, 5), (3, 2, 1, 3), (2, 1, 3, 5, 0, 1, 2), (2, 3, 2, 3, 2)
+        for bookmark in ((), (2,), chain, FIRST, of_another, too_long, through_the_person, tuple(range(10)), tuple(range(99))):
+            with self.subTest(bookmark):
+                self.assert_refused(17, 0, lambda: kin.ring_portion(SIX_PERSONS, R, 2, bookmark))
+                self.assert_refused(17, 0, lambda: rings_listed(R, after=bookmark))
+        self.assert_refused(17, 0, lambda: rings_listed(R._replace(hops=4), after=RINGS[1]))
+        self.assert_refused(17, 0, lambda: rings_listed(R._replace(undated=False), after=RINGS[3]))
+
+    def test_a_refusal_comes_once_and_with_the_first_ring(self):
+        refused = kin.rings(SIX_PERSONS, Q)
+        self.assert_refused(21, 0, lambda: next(refused))
+        self.assertEqual((list(refused), refused.last), ([], None))
+
+    def test_chains_take_no_rings(self):
+        self.assert_refused(11, 0, lambda: listed(R))
+        self.assert_refused(11, 0, lambda: kin.HeldListing(R, RINGS[0]).move_on(SIX_PERSONS))
+        self.assert_refused(11, 0, lambda: kin.join(SIX_PERSONS, R))
+
+    def test_numbers_that_the_library_cannot_be_asked(self):
+        # At once, and not with the first ring.
+        self.assertRaises(ValueError, kin.rings, SIX_PERSONS, kin.Question.back_to(1 << 32, 4))
+        for ask in (kin.rings, kin.ring_portion):
+            self.assertRaises(ValueError, ask, SIX_PERSONS, R, 1, (2, -1, 2))
+        self.assertRaises(TypeError, kin.rings, "KLF1", R)
 
 
 class Portions(Case):
@@ -398,6 +525,12 @@ class Package(Case):
         tried = subprocess.run(command, cwd=Path(__file__).parent, env=elsewhere, capture_output=True, text=True)
         self.assertIn("ImportError: /nowhere/libkin.so cannot be loaded: run bindings/python/build.sh", tried.stderr)
 
+    def test_the_rings_of_the_front_page(self):
+        page = (ROOT / "README.md").read_text()
+        command, shown = re.search(r"\n    (.*kin\.rings.*)\n\nprints\n\n    (.*)\n", page).groups()
+        printed = subprocess.run(command, shell=True, cwd=ROOT, stdout=subprocess.PIPE, check=True, text=True).stdout
+        self.assertEqual(printed, shown + "\n")
+
     def test_the_version_is_the_header_s(self):
         header = (ROOT / "include" / "kin.h").read_text().splitlines()
         self.assertIn(f'#define KIN_VERSION "{kin.__version__}"', header)
@@ -423,6 +556,23 @@ class RandomFiles(Case):
                     self.assertEqual(joined.chains, sorted(right, key=len))
         self.assertGreater(chains_seen[True], 400)
         self.assertGreater(chains_seen[False], 30)
+
+    def test_rings_against_trying_every_sequence(self):
+        chance = random.Random(self.SEED + 21)
+        rings_seen = {True: 0, False: 0}
+        for run in range(400):
+            persons, feeds = chance.randint(2, 6), [(3, 1), (8, 2)]
+            rows = random_rows(chance, persons, len(feeds))
+            file = link_file(rows, feeds)
+            question = random_question(chance, persons)
+            question = question._replace(to_person=question.from_person)
+            for question in (question, question._replace(undated=False)):
+                right = rings_by_trying(rows, feeds, question)
+                rings_seen[question.undated] += len(right)
+                with self.subTest(seed=self.SEED, run=run, question=question):
+                    self.assertEqual(rings_listed(question, file, room=chance.randint(1, 5)), right)
+        self.assertGreater(rings_seen[True], 400)
+        self.assertGreater(rings_seen[False], 30)
 
 
 if __name__ == "__main__":

@@ -1,4 +1,4 @@
-"""The library's six functions, as include/kin.h declares them, and what is lent to them."""
+"""The library's seven functions, as include/kin.h declares them, and what is lent to them."""
 
 from __future__ import annotations
 
@@ -61,6 +61,7 @@ def _load() -> ctypes.CDLL:
         (loaded.kin_row, [*file, whole_number]),
         (loaded.kin_fewest, [*file, *question, whole_number]),
         (loaded.kin_portion, [*file, *question, whole_number, *cells, *cells]),
+        (loaded.kin_rings, [*file, *question, whole_number, *cells, *cells]),
         (loaded.kin_held, [*cells, *file, *cells]),
         (loaded.kin_join, [*file, *question, *cells, *cells]),
     ):

@@ -1,4 +1,4 @@
-"""What a question is answered: chains, in portions or all, and fewest hops."""
+"""What a question is answered: chains and rings, in portions or all, and fewest hops."""
 
 from __future__ import annotations
 
@@ -6,14 +6,17 @@ import ctypes
 from collections.abc import Iterator, Sequence
 from typing import NamedTuple
 
-from ._library import RECORD_CELLS, Bytes, Cells, lent, library, number, room_for, slice_of, unchanging
+from ._library import RECORD_CELLS, Bytes, Cells, lent, library, number, numbers, room_for, slice_of, unchanging
 from ._question import Question, numbers_of, question_of
 from ._refused import not_refused
 
 # The persons of a chain, From first and To last.
 Chain = tuple[int, ...]
 
-# Chains a portion, unless another room is asked for. Each portion checks the file again.
+# The persons of a ring, the one that it leads back to first and last.
+Ring = tuple[int, ...]
+
+# Chains or rings a portion, unless another room is asked for. Each portion checks the file again.
 ROOM = 1_024
 
 # Half chains that the join has room for, unless another room is asked for.
@@ -41,6 +44,13 @@ class Portion(NamedTuple):
     ended: bool
 
 
+class RingPortion(NamedTuple):
+    """The rings of a portion, and whether none follows the last of them."""
+
+    rings: list[Ring]
+    ended: bool
+
+
 class Joined(NamedTuple):
     """A portion listed by joining half chains, and all the half chains there are."""
 
@@ -50,6 +60,8 @@ class Joined(NamedTuple):
 
 class HeldListing:
     """A question and how far its listing has come: not started, or after a chain. Each call moves it on by a portion.
+
+    It lists chains. Who lists rings keeps the last one, after which they go on.
 
     Two threads must not move the same held listing on at once.
     """
@@ -98,23 +110,38 @@ class HeldListing:
         """The next chains, at most so many; the last one is kept. If there are none, or on a refusal, nothing changes here."""
         output = room_for(room)
         answer = library.kin_held(*slice_of(self._cells), *slice_of(unchanging(file)), *slice_of(output))
-        return _portion(answer, output)
+        return Portion(*_listed(answer, output))
 
 
-class Chains(Iterator[Chain]):
-    """The chains of a question still to come, one after another. The last one handed out is a bookmark, to go on after it later."""
+class _OneByOne(Iterator[Chain]):
+    """What is still to come of a listing, and the last that was handed out."""
 
-    def __init__(self, file: Bytes, question: Question, room: int, after: Sequence[int] | None) -> None:
+    def __init__(self, question: Question, after: Sequence[int] | None, to_come: Iterator[Chain]) -> None:
         self.question = question
         self.last = after
-        self._to_come = _onward(unchanging(file), HeldListing(question, after), room)
+        self._to_come = to_come
 
     def __repr__(self) -> str:
-        return f"Chains({self.question}, after={self.last})"
+        return f"{type(self).__name__}({self.question}, after={self.last})"
 
     def __next__(self) -> Chain:
         self.last = chain = next(self._to_come)
         return chain
+
+
+class Chains(_OneByOne):
+    """The chains of a question still to come, one after another. The last one handed out is a bookmark, to go on after it later."""
+
+    def __init__(self, file: Bytes, question: Question, room: int, after: Sequence[int] | None) -> None:
+        super().__init__(question, after, _chains_onward(unchanging(file), HeldListing(question, after), room))
+
+
+class Rings(_OneByOne):
+    """The rings of a person still to come, one after another. The last one handed out is a bookmark, to go on after it later."""
+
+    def __init__(self, file: Bytes, question: Question, room: int, after: Sequence[int] | None) -> None:
+        asked, start = numbers_of(question), numbers(_started_and_record(after))
+        super().__init__(question, after, _rings_onward(unchanging(file), asked, room, start))
 
 
 def fewest_hops(file: Bytes, question: Question, person: int) -> int | None:
@@ -130,7 +157,7 @@ def portion(file: Bytes, question: Question, room: int = ROOM, after: Sequence[i
     answer = library.kin_portion(
         *slice_of(unchanging(file)), *numbers_of(question), started, *slice_of(lent(record)), *slice_of(output)
     )
-    return _portion(answer, output)
+    return Portion(*_listed(answer, output))
 
 
 def chains(file: Bytes, question: Question, room: int = ROOM, after: Sequence[int] | None = None) -> Chains:
@@ -141,6 +168,24 @@ def chains(file: Bytes, question: Question, room: int = ROOM, after: Sequence[in
     return Chains(file, question, room, after)
 
 
+def ring_portion(file: Bytes, question: Question, room: int = ROOM, after: Sequence[int] | None = None) -> RingPortion:
+    """The first rings of the question's person, at most so many, in dictionary order; with a bookmark, the first after that ring.
+
+    A ring is 2 to the question's hops from the person back to that person, all others different from it and from each other. Both
+    directions round are two rings. Refusals 1 to 10, 12 to 17, 20, and 21 if the question names two persons.
+    """
+    return _ring_portion(unchanging(file), numbers_of(question), room, _started_and_record(after))
+
+
+def rings(file: Bytes, question: Question, room: int = ROOM, after: Sequence[int] | None = None) -> Rings:
+    """All rings of the question's person, or all after a bookmark, in dictionary order. A refusal is raised when the first ring is
+    asked for.
+
+    They are fetched so many a portion; the room shows in the time it takes only.
+    """
+    return Rings(file, question, room, after)
+
+
 def join(file: Bytes, question: Question, room: int = ROOM, working_room: int = WORKING_ROOM) -> Joined:
     """The first chains, at most so many, shorter ones first, and all half chains they are joined from. Refusals 1 to 16, 18, 20."""
     working, output = room_for(working_room), room_for(room)
@@ -148,12 +193,12 @@ def join(file: Bytes, question: Question, room: int = ROOM, working_room: int = 
     answer = library.kin_join(
         *slice_of(unchanging(file)), *numbers_of(question), *slice_of(working), *slice_of(output)
     )
-    listed = _portion(answer, output)
+    listed = Portion(*_listed(answer, output))
     # The library doesn't say how many half chains there are, but leaves the cells behind them as they came.
     return Joined(listed, list(_chains_in(working, working_room)))
 
 
-def _onward(file: bytes, held: HeldListing, room: int) -> Iterator[Chain]:
+def _chains_onward(file: bytes, held: HeldListing, room: int) -> Iterator[Chain]:
     """The chains still to come of a held listing, which is moved on portion by portion."""
     ended = False
     while not ended:
@@ -161,9 +206,27 @@ def _onward(file: bytes, held: HeldListing, room: int) -> Iterator[Chain]:
         yield from found
 
 
-def _portion(answer: int, output: Cells) -> Portion:
+def _rings_onward(file: bytes, asked: list[int], room: int, start: list[int]) -> Iterator[Ring]:
+    """The rings still to come, each portion after the last ring of the one before."""
+    ended = False
+    while not ended:
+        found, ended = _ring_portion(file, asked, room, start)
+        if found:
+            start = _started_and_record(found[-1])
+        yield from found
+
+
+def _ring_portion(file: bytes, asked: list[int], room: int, start: list[int]) -> RingPortion:
+    started, *record = start
+    output = room_for(room)
+    answer = library.kin_rings(*slice_of(file), *asked, started, *slice_of(lent(record)), *slice_of(output))
+    return RingPortion(*_listed(answer, output))
+
+
+def _listed(answer: int, output: Cells) -> tuple[list[Chain], bool]:
+    """What was written to the output, and whether the listing has ended."""
     listed = not_refused(answer)
-    return Portion(list(_chains_in(output, listed & (_ENDED - 1))), bool(listed & _ENDED))
+    return list(_chains_in(output, listed & (_ENDED - 1))), bool(listed & _ENDED)
 
 
 def _chains_in(cells: Cells, count: int) -> Iterator[Chain]:

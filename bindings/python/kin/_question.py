@@ -5,7 +5,7 @@ from __future__ import annotations
 import datetime
 import enum
 from collections.abc import Sequence
-from typing import NamedTuple, Union
+from typing import Any, NamedTuple, Union
 
 from ._library import numbers
 
@@ -35,9 +35,9 @@ class DateMeaning(enum.IntEnum):
 
 class Question(NamedTuple):
     """What is asked: between whom, in how many hops, over links of which classes, with days of which meaning in which window,
-    and whether undated links count too.
+    and whether undated links count too. Rings are asked of one person, who is from_person and to_person: back_to asks so.
 
-    Classes, meaning, days and undated may be plain numbers too; the library refuses those that make no sense (10 to 15, 20).
+    Classes, meaning, days and undated may be plain numbers too; the library refuses those that make no sense (10 to 15, 20, 21).
     """
 
     from_person: int
@@ -48,6 +48,11 @@ class Question(NamedTuple):
     first_day: Day = 1
     last_day: Day = LAST_DAY
     undated: Union[bool, int] = True
+
+    @classmethod
+    def back_to(cls, person: int, hops: int, **others: Any) -> Question:
+        """Asks for the rings of a person. What else a question says may follow by its name."""
+        return cls(person, person, hops, **others)
 
 
 def numbers_of(question: Question) -> list[int]:

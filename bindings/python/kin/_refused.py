@@ -21,11 +21,12 @@ MEANINGS = (
     "The classes asked for are not a sum of classes, 1 to 15.",
     "The date meaning asked for is neither 1, the day of the event, nor 2, the day of registration.",
     "The first day asked for is 0, the last day is above 3,652,059, or the first day is above the last.",
-    "The output has fewer than ten cells, so there is no room for one chain.",
-    "The bookmark is not ten cells, or it is not the record of a chain of this listing.",
+    "The output has fewer than ten cells, so there is no room for one chain or ring.",
+    "The bookmark is not ten cells, or it is not the record of a chain or ring of this listing.",
     "The working cells hold fewer records than there are half chains.",
     "The program's input is shorter than 32 bytes, so there is no whole question in it.",
     "The number that says whether undated links count is neither 1, they count, nor 0, they are left out.",
+    "From and To are different persons, and rings lead back to the same one.",
 )
 
 # The bit of an answer that says refused; below it stand the number, from bit 32 on, and the place.

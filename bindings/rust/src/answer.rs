@@ -13,7 +13,7 @@ pub struct Counts {
     pub feeds: u32,
 }
 
-/// What was listed: chains were written to the output, from its first cell on. The other cells are as they came.
+/// What was listed: chains, or rings, were written to the output, from its first cell on. The other cells are as they came.
 ///
 /// ```
 /// use kin::{Question, Start};
@@ -26,9 +26,9 @@ pub struct Counts {
 /// ```
 #[derive(Clone, Copy, Debug, PartialEq, Eq, Hash)]
 pub struct Listed {
-    /// How many chains were written.
+    /// How many chains or rings were written.
     pub count: usize,
-    /// Whether no chain follows the last one written.
+    /// Whether none follows the last one written.
     pub ended: bool,
 }
 

@@ -1,4 +1,4 @@
-//! Chains, and the records in which the library writes them.
+//! Chains and rings, and the records in which the library writes them.
 
 use std::fmt;
 
@@ -37,7 +37,7 @@ impl Chain {
         self.record[0] as usize
     }
 
-    /// The persons, From first and To last.
+    /// The persons, From first and To last; of a ring they are the same person.
     pub fn persons(&self) -> &[u32] {
         self.record.get(1..self.hops() + 2).unwrap_or_default()
     }
@@ -48,6 +48,18 @@ impl Chain {
     }
 }
 
+/// A ring: from a person back to that person, all others different from it and from each other. Its record has the form of a
+/// chain's, so it is read, shown and kept as one.
+///
+/// ```
+/// use kin::Ring;
+///
+/// let ring = Ring::from_record(&[3, 2, 1, 3, 2, 0, 0, 0, 0, 0]).unwrap();
+/// assert_eq!(ring.persons(), [2, 1, 3, 2]);
+/// assert_eq!(ring.to_string(), "3: 2 1 3 2");
+/// ```
+pub type Ring = Chain;
+
 impl fmt::Display for Chain {
     fn fmt(&self, shown: &mut fmt::Formatter<'_>) -> fmt::Result {
         write!(shown, "{}:", self.hops())?;
@@ -57,7 +69,7 @@ impl fmt::Display for Chain {
     }
 }
 
-/// The first `count` chains in cells that the library has written records to.
+/// The first `count` chains, or rings, in cells that the library has written records to.
 ///
 /// ```
 /// let output = [1, 0, 5, 0, 0, 0, 0, 0, 0, 0, 2, 0, 1, 5, 0, 0, 0, 0, 0, 0, 7, 7, 7];

@@ -1,12 +1,9 @@
 //! All chains, one after another.
 
 use std::iter::FusedIterator;
-use std::ops::Range;
 
-use crate::{Chain, HeldListing, Question, Refused, RECORD_CELLS};
-
-/// Chains a portion, unless another room is asked for: 40 KB of cells. Each portion checks the file again.
-const ROOM: u16 = 1_024;
+use crate::one_by_one::{OneByOne, Portions, ROOM};
+use crate::{Chain, HeldListing, Listed, Question, Refused};
 
 /// All chains of a question, in dictionary order.
 ///
@@ -27,15 +24,7 @@ pub fn chains(file: &[u8], question: Question) -> Chains<'_> {
 
 /// Goes through chains by moving a held listing on, portion by portion. Made by [`chains`] or [`Chains::onward`].
 #[derive(Clone, Debug)]
-pub struct Chains<'f> {
-    file: &'f [u8],
-    held: HeldListing,
-    /// The last portion, and which of its chains are still to be handed out.
-    output: Vec<u32>,
-    waiting: Range<usize>,
-    /// Whether no further portion is to be asked for.
-    over: bool,
-}
+pub struct Chains<'f>(OneByOne<MovedOn<'f>>);
 
 impl<'f> Chains<'f> {
     /// The chains still to come of a held listing, fetched so many a portion. The room shows in the time it takes and in
@@ -52,13 +41,20 @@ impl<'f> Chains<'f> {
     /// # Ok::<(), std::io::Error>(())
     /// ```
     pub fn onward(file: &'f [u8], held: HeldListing, room: u16) -> Chains<'f> {
-        Chains {
-            file,
-            held,
-            output: vec![0; usize::from(room) * RECORD_CELLS],
-            waiting: 0..0,
-            over: false,
-        }
+        Chains(OneByOne::new(MovedOn { file, held }, room))
+    }
+}
+
+/// A held listing that is moved on over its file.
+#[derive(Clone, Debug)]
+struct MovedOn<'f> {
+    file: &'f [u8],
+    held: HeldListing,
+}
+
+impl Portions for MovedOn<'_> {
+    fn next_portion(&mut self, output: &mut [u32]) -> Result<Listed, Refused> {
+        self.held.move_on(self.file, output)
     }
 }
 
@@ -66,21 +62,7 @@ impl Iterator for Chains<'_> {
     type Item = Result<Chain, Refused>;
 
     fn next(&mut self) -> Option<Self::Item> {
-        if self.waiting.is_empty() && !self.over {
-            match self.held.move_on(self.file, &mut self.output) {
-                Ok(listed) => {
-                    self.waiting = 0..listed.count;
-                    self.over = listed.ended;
-                }
-                Err(refused) => {
-                    self.over = true;
-                    return Some(Err(refused));
-                }
-            }
-        }
-        let place = self.waiting.next()?;
-        let record = self.output.chunks_exact(RECORD_CELLS).nth(place)?;
-        Chain::from_record(record).map(Ok)
+        self.0.next()
     }
 }
 

@@ -13,7 +13,8 @@ const UNDATED: usize = 7;
 const STARTED: usize = UNDATED + 1;
 const RECORD: usize = HELD_CELLS - RECORD_CELLS;
 
-/// A question and how far its listing has come. Each call moves it on by a portion.
+/// A question and how far its listing of chains has come. Each call moves it on by a portion. Who lists rings keeps the
+/// question and the last ring, and goes on by [`Rings::onward`](crate::Rings::onward).
 ///
 /// ```
 /// use kin::{HeldListing, Listed, Question};

@@ -6,10 +6,21 @@ use crate::{outside, Counts, Listed, Question, Refused};
 /// Where a portion begins.
 #[derive(Clone, Copy, Debug, PartialEq, Eq, Hash)]
 pub enum Start<'b> {
-    /// With the first chain of the listing.
+    /// With the first chain, or ring, of the listing.
     Fresh,
-    /// After this bookmark, the ten cells of a record. Anything that is no record of a chain of the listing is refused (17).
+    /// After this bookmark, the ten cells of a record. Anything that is no record of a chain, or ring, of the listing is
+    /// refused (17).
     After(&'b [u32]),
+}
+
+impl<'b> Start<'b> {
+    /// The started mark and the bookmark, which isn't looked at on a fresh start.
+    fn numbers(self) -> (u32, &'b [u32]) {
+        match self {
+            Start::Fresh => (0, &[]),
+            Start::After(bookmark) => (1, bookmark),
+        }
+    }
 }
 
 /// Checks a file: its counts, or the first fault (refusals 1 to 9).
@@ -60,11 +71,35 @@ pub fn portion(
     start: Start<'_>,
     output: &mut [u32],
 ) -> Result<Listed, Refused> {
-    let (started, bookmark) = match start {
-        Start::Fresh => (0, &[][..]),
-        Start::After(bookmark) => (1, bookmark),
-    };
+    let (started, bookmark) = start.numbers();
     listed(outside::portion(file, question, started, bookmark, output))
+}
+
+/// Writes the next rings of the question's person to the output, in dictionary order, as many as it has room for, ten cells
+/// a ring. Refusals 1 to 10, 12 to 17, and 21 if the question names two persons.
+///
+/// A ring is 2 to the question's hops over links that it admits, from the person back to that person, all others different
+/// from it and from each other. Both directions round are two rings. In one hop there is none.
+///
+/// ```
+/// use kin::{Listed, Question, Start};
+///
+/// let file = std::fs::read("../../examples/six_persons.klf")?;
+/// let bookmark = [3, 2, 1, 3, 2, 0, 0, 0, 0, 0];
+/// let mut output = [0; 20];
+/// let listed = kin::ring_portion(&file, Question::back_to(2, 3), Start::After(&bookmark), &mut output)?;
+/// assert_eq!(listed, Listed { count: 1, ended: true });
+/// assert_eq!(output[..4], [2, 2, 3, 2]);
+/// # Ok::<(), Box<dyn std::error::Error>>(())
+/// ```
+pub fn ring_portion(
+    file: &[u8],
+    question: Question,
+    start: Start<'_>,
+    output: &mut [u32],
+) -> Result<Listed, Refused> {
+    let (started, bookmark) = start.numbers();
+    listed(outside::rings(file, question, started, bookmark, output))
 }
 
 /// Lists by joining half chains: shorter chains first, in dictionary order among those of the same hops. Refusals 1 to 16

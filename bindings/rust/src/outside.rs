@@ -1,4 +1,4 @@
-//! The library's six functions, as `include/kin.h` declares them, each with a safe call. All unsafe code is here.
+//! The library's seven functions, as `include/kin.h` declares them, each with a safe call. All unsafe code is here.
 //!
 //! Why the calls are safe: the functions are proved for any slices and any numbers, they touch only the slices lent to
 //! them, of their lengths, and keep no pointer; Rust's slices are aligned and never overlap where one may be written.
@@ -22,6 +22,23 @@ extern "C" {
         person: u32,
     ) -> u64;
     fn kin_portion(
+        file: *const u8,
+        file_length: usize,
+        from: u32,
+        to: u32,
+        hops: u32,
+        classes: u32,
+        meaning: u32,
+        first: u32,
+        last: u32,
+        undated: u32,
+        started: u32,
+        bookmark: *const u32,
+        bookmark_length: usize,
+        output: *mut u32,
+        output_length: usize,
+    ) -> u64;
+    fn kin_rings(
         file: *const u8,
         file_length: usize,
         from: u32,
@@ -105,6 +122,36 @@ pub(crate) fn portion(
     // SAFETY: as said above.
     unsafe {
         kin_portion(
+            file.as_ptr(),
+            file.len(),
+            from,
+            to,
+            hops,
+            classes,
+            meaning,
+            first,
+            last,
+            undated,
+            started,
+            bookmark.as_ptr(),
+            bookmark.len(),
+            output.as_mut_ptr(),
+            output.len(),
+        )
+    }
+}
+
+pub(crate) fn rings(
+    file: &[u8],
+    question: Question,
+    started: u32,
+    bookmark: &[u32],
+    output: &mut [u32],
+) -> u64 {
+    let [from, to, hops, classes, meaning, first, last, undated] = question.numbers();
+    // SAFETY: as said above.
+    unsafe {
+        kin_rings(
             file.as_ptr(),
             file.len(),
             from,

@@ -5,9 +5,10 @@ use crate::{Classes, DateMeaning};
 /// 31 December 9999, the last day a link or a question can name. Day 1 is 1 January of year 1.
 pub const LAST_DAY: u32 = 3_652_059;
 
-/// What is asked of a file: between whom, in how many hops, over which links.
+/// What is asked of a file: between whom, in how many hops, over which links. For chains From and To are two persons, for
+/// rings they are the same one.
 ///
-/// A question may hold any numbers; the library refuses those that make no sense (refusals 10 to 15). Whether undated links
+/// A question may hold any numbers; the library refuses those that make no sense (refusals 10 to 15 and 21). Whether undated links
 /// count is a yes or no, and never refused.
 ///
 /// ```
@@ -25,11 +26,11 @@ pub const LAST_DAY: u32 = 3_652_059;
 /// ```
 #[derive(Clone, Copy, Debug, PartialEq, Eq, Hash)]
 pub struct Question {
-    /// The first person of every chain.
+    /// The first person of every chain or ring.
     pub from: u32,
-    /// The last person of every chain.
+    /// The last person of every chain or ring.
     pub to: u32,
-    /// The most hops of a chain, 1 to 8.
+    /// The most hops of a chain or ring, 1 to 8.
     pub hops: u32,
     /// The classes of link that count.
     pub classes: Classes,
@@ -56,6 +57,22 @@ impl Question {
             last_day: LAST_DAY,
             undated: true,
         }
+    }
+
+    /// Asks for the rings of a person, over links of every class, undated or with any day of an event.
+    ///
+    /// ```
+    /// use kin::Question;
+    ///
+    /// // Only over links with a day.
+    /// let question = Question {
+    ///     undated: false,
+    ///     ..Question::back_to(2, 4)
+    /// };
+    /// assert_eq!((question.from, question.to), (2, 2));
+    /// ```
+    pub fn back_to(person: u32, hops: u32) -> Question {
+        Question::between(person, person, hops)
     }
 
     /// The eight numbers, in the order in which the library takes them.

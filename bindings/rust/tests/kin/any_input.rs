@@ -2,8 +2,8 @@
 
 use crate::{refused, SIX_PERSONS};
 use kin::{
-    check, fewest_hops, join, links_in, portion, row_view, Classes, DateMeaning, HeldListing,
-    Listed, Question, Refused, Start,
+    check, fewest_hops, join, links_in, portion, ring_portion, row_view, Classes, DateMeaning,
+    HeldListing, Listed, Question, Refused, Start,
 };
 
 /// Seeded, so that a failure can be seen again.
@@ -49,15 +49,25 @@ impl Random {
     }
 }
 
-/// Holds an answer to the file's verdict and to the cells that were lent, all 9 before the call.
+/// Holds an answer of chains to the file's verdict and to the cells that were lent, all 9 before the call.
 fn hold(answer: Result<Listed, Refused>, file: &[u8], output: &[u32]) {
+    hold_by(answer, file, output, |number| matches!(number, 1..=18 | 20));
+}
+
+/// The same, where only these numbers refuse.
+fn hold_by(
+    answer: Result<Listed, Refused>,
+    file: &[u8],
+    output: &[u32],
+    refuses: impl Fn(u32) -> bool,
+) {
     match answer {
         Ok(Listed { count, .. }) => {
             assert!(check(file).is_ok());
             assert!(output[10 * count..].iter().all(|&cell| cell == 9));
         }
         Err(refused) => {
-            assert!(matches!(refused.number, 1..=18 | 20), "{refused}");
+            assert!(refuses(refused.number), "{refused}");
             assert!(output.iter().all(|&cell| cell == 9));
             let of_the_file = check(file).is_err();
             assert_eq!(of_the_file, refused.number <= 9, "{refused}");
@@ -93,6 +103,33 @@ fn any_file_and_any_question_get_an_answer() {
             assert!(working.iter().all(|&cell| cell == 9));
         }
     }
+}
+
+#[test]
+fn any_question_for_rings_gets_an_answer_and_never_11() {
+    let mut random = Random(2_131);
+    let mut seen = [false; 22];
+    for _ in 0..20_000 {
+        let (file, mut question) = (random.file(), random.question());
+        if random.number(3) > 0 {
+            question.to = question.from;
+        }
+        let bookmark: Vec<u32> = (0..10).map(|_| random.number(3)).collect();
+        for start in [Start::Fresh, Start::After(&bookmark)] {
+            let mut output = vec![9; 4 + random.next() as usize % 45];
+            let answer = ring_portion(&file, question, start, &mut output);
+            hold_by(
+                answer,
+                &file,
+                &output,
+                |number| matches!(number, 1..=10 | 12..=17 | 21),
+            );
+            seen[answer.map_or_else(|refused| refused.number as usize, |_| 0)] = true;
+        }
+    }
+    assert!([0, 10, 12, 13, 14, 15, 16, 17, 21]
+        .iter()
+        .all(|&number| seen[number]));
 }
 
 #[test]

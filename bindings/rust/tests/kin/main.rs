@@ -5,6 +5,7 @@ mod any_input;
 mod portions;
 mod questions;
 mod refusals;
+mod rings;
 mod rows;
 mod six_persons;
 mod version;
@@ -34,4 +35,32 @@ fn persons_in(cells: &[u32], count: usize) -> Vec<Vec<u32>> {
         .collect();
     assert_eq!(chains.len(), count, "every record written is a chain");
     chains
+}
+
+/// A file of so many persons, each linked to each by an undated link.
+fn everybody_linked(persons: u32) -> Vec<u8> {
+    let links = persons * (persons - 1);
+    let row_table = 32 + 4;
+    let link_table = row_table + 4 * (persons + 1);
+    let header = [
+        persons,
+        links,
+        1,
+        32,
+        row_table,
+        link_table,
+        link_table + 12 * links,
+    ];
+    let mut file = b"KLF1".to_vec();
+    let put = |file: &mut Vec<u8>, number: u32| file.extend(number.to_le_bytes());
+    header.iter().for_each(|&number| put(&mut file, number));
+    file.extend([1, 0, 1, 0]);
+    (0..=persons).for_each(|person| put(&mut file, person * (persons - 1)));
+    for person in 0..persons {
+        for target in (0..persons).filter(|&target| target != person) {
+            put(&mut file, target);
+            file.extend([0, 0, 0, 0, 0, 0, 1, 0]);
+        }
+    }
+    file
 }

@@ -1,35 +1,7 @@
 //! Listings in portions: the room a portion has shows in nothing, and a listing can be put away and taken up.
 
-use crate::{listed, refused, the_question, SIX_PERSONS};
+use crate::{everybody_linked, listed, refused, the_question, SIX_PERSONS};
 use kin::{Chain, Chains, HeldListing, Question, Refused, LAST_DAY};
-
-/// A file of so many persons, each linked to each by an undated link.
-fn everybody_linked(persons: u32) -> Vec<u8> {
-    let links = persons * (persons - 1);
-    let row_table = 32 + 4;
-    let link_table = row_table + 4 * (persons + 1);
-    let header = [
-        persons,
-        links,
-        1,
-        32,
-        row_table,
-        link_table,
-        link_table + 12 * links,
-    ];
-    let mut file = b"KLF1".to_vec();
-    let put = |file: &mut Vec<u8>, number: u32| file.extend(number.to_le_bytes());
-    header.iter().for_each(|&number| put(&mut file, number));
-    file.extend([1, 0, 1, 0]);
-    (0..=persons).for_each(|person| put(&mut file, person * (persons - 1)));
-    for person in 0..persons {
-        for target in (0..persons).filter(|&target| target != person) {
-            put(&mut file, target);
-            file.extend([0, 0, 0, 0, 0, 0, 1, 0]);
-        }
-    }
-    file
-}
 
 /// All ways on from a chain so far to the last person, where everybody is linked; in dictionary order.
 fn ways_on(chain: &[u32], persons: u32, hops: u32) -> Vec<Vec<u32>> {

@@ -20,7 +20,7 @@ fn lines() -> Vec<(u32, &'static str)> {
 #[test]
 fn every_meaning_is_the_document_s() {
     let lines = lines();
-    assert_eq!(lines.len(), 20);
+    assert_eq!(lines.len(), 21);
     for (number, (told, meaning)) in (1..).zip(lines) {
         let refused = Refused { number, place: 7 };
         assert_eq!(told, number);
@@ -34,14 +34,14 @@ fn every_meaning_is_the_document_s() {
 
 #[test]
 fn a_number_without_a_line_has_no_meaning() {
-    for number in [0, 21, u32::MAX] {
+    for number in [0, 22, u32::MAX] {
         let refused = Refused { number, place: 0 };
         assert_eq!(refused.meaning(), None);
         assert_eq!(refused.to_string(), format!("refused {number} at 0"));
     }
 }
 
-/// All chains that a file tells of a question, each way of listing them handing a refusal on.
+/// How many chains a file tells of a question, each way of listing them handing a refusal on.
 fn listed_in_every_way(file: &[u8], question: Question) -> Result<[usize; 4], Box<dyn Error>> {
     let (mut output, mut working) = ([0; 40], [0; 50]);
     Ok([
@@ -49,6 +49,16 @@ fn listed_in_every_way(file: &[u8], question: Question) -> Result<[usize; 4], Bo
         HeldListing::new(question).move_on(file, &mut output)?.count,
         kin::join(file, question, &mut working, &mut output)?.count,
         kin::chains(file, question)
+            .collect::<Result<Vec<_>, _>>()?
+            .len(),
+    ])
+}
+
+/// How many rings, likewise.
+fn rings_in_every_way(file: &[u8], question: Question) -> Result<[usize; 2], Box<dyn Error>> {
+    Ok([
+        kin::ring_portion(file, question, Start::Fresh, &mut [0; 40])?.count,
+        kin::rings(file, question)
             .collect::<Result<Vec<_>, _>>()?
             .len(),
     ])
@@ -63,4 +73,9 @@ fn a_refusal_is_an_error_that_is_handed_on() {
     let error = listed_in_every_way(&[], the_question()).unwrap_err();
     assert_eq!(error.downcast_ref(), Some(&refused(1, 0)));
     assert!(error.to_string().starts_with("refused 1 at 0: The file"));
+
+    let counts = rings_in_every_way(SIX_PERSONS, Question::back_to(2, 4));
+    assert_eq!(counts.unwrap(), [3; 2]);
+    let error = rings_in_every_way(SIX_PERSONS, the_question()).unwrap_err();
+    assert_eq!(error.downcast_ref(), Some(&refused(21, 0)));
 }
