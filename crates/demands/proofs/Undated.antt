@@ -33,5 +33,5 @@ undated-as-said =
       admits = λ file q wants. (as-before file q wants, answers-before file q wants);
       leavesOut = admitted-dated;
       keepsDated = dated-as-before;
-      dated = λ file q asked none c m. dated-hops file q none c (demand-two file q asked .onceInOrder .2 c m .reached);
+      dated = λ file q asked none c m. dated-hops file q none c (demand-two file q asked .listing .onceInOrder .2 c m .reached);
     }

@@ -21,13 +21,14 @@ use Rattle.ways.specs.ByHops.{Sooner}
 use Rattle.ways.specs.Records.{cellsOf, written}
 use Rattle.ways.specs.Sizes.{recordSize}
 use Rattle.question.specs.declared.Question.{Question}
-use Rattle.question.specs.Asked.{personFault, askedNumbers}
+use Rattle.question.specs.Asked.{personFault, askedFault, askedNumbers}
 use Rattle.distance.specs.Answers as distance
 use Rattle.distance.specs.declared.HopsAnswer as hops
-use Rattle.portion.specs.Listing.{listingFor, portionFault, portionNumbers, Portioned, Run, LaidEndToEnd, Resumed}
+use Rattle.portion.specs.Listing.{listingFor, portionFault, portionNumbers, Portioned, LaidEndToEnd, Resumed}
 use Rattle.listing.specs.Portions.{Start, fresh, bookmarked, startFault}
 use Rattle.refusals.specs.Answers.{listed, refused, answerSaid}
-use Rattle.listing.specs.EndToEnd.{Call, saysEnded, allWrote, allRoom, Brings, EndsRight, Laid}
+use Rattle.listing.specs.Answers.{PortionOf}
+use Rattle.listing.specs.EndToEnd.{Call, Run, saysEnded, allWrote, allRoom, Brings, EndsRight, Laid, ResumedIn}
 use Rattle.refusals.specs.declared.Answer.{Answer}
 use Rattle.held.specs.declared.Held.{Held}
 use Rattle.held.specs.Holding.{startOf, MovedOn}
@@ -84,6 +85,18 @@ pub record Lists (chains : List (List ℕ)) (out out′ : List ℕ) (answer : An
   pub says : answerSaid answer ≡ listed (length (firstOnes chains out)) (allFit chains out)
   pub cells : out′ ≡ written recordSize (firstOnes chains out) out
 
+-- What demand 2 says of a listing, of which this is the first fault: it holds just what `Is` says, in the customer's words
+pub record HoldsJust (Is : List ℕ → Type 0) (first : Fault) (chains : List (List ℕ)) : Type 0 where
+  -- "The listing from one person to another holds every simple path of at most the asked number of hops over admitted links, as the
+  -- published definition of hop-constrained path enumeration has it."
+  pub holdsEvery : (c : List ℕ) → Is c → c ∈ chains
+  -- "Each stands there once, in dictionary order, and nothing else does."
+  pub onceInOrder : Distinct chains × Rising Before chains × ((c : List ℕ) → c ∈ chains → Is c)
+  -- so the listing is the only list that is so
+  pub noOther : (L : List (List ℕ)) → Rising Before L → ((c : List ℕ) → c ∈ L ↔ Is c) → L ≡ chains
+  -- and a portion from a fresh start lists it
+  pub portion : {out out′ : List ℕ} {answer : Answer} → recordSize ≤ length out → PortionOf first chains fresh out out′ answer → Lists chains out out′ answer
+
 -- there is room for a record, and for the half chains
 pub record Fitting (file : List ℕ) (q : Question) (working out : List ℕ) : Type 0 where
   pub room : recordSize ≤ length out
@@ -106,42 +119,40 @@ pub record JoinRoute (file : List ℕ) (q : Question) : Type 0 where
 
 -- Demand 2, of a file and a question that pass
 pub record DemandTwo (file : List ℕ) (q : Question) : Type 0 where
-  -- "The listing from one person to another holds every simple path of at most the asked number of hops over admitted links, as the
-  -- published definition of hop-constrained path enumeration has it."
-  pub holdsEvery : (c : List ℕ) → SimplePath file q c → c ∈ listingFor file q
-  -- "Each stands there once, in dictionary order, and nothing else does."
-  pub onceInOrder : Distinct (listingFor file q) × Rising Before (listingFor file q) × ((c : List ℕ) → c ∈ listingFor file q → SimplePath file q c)
+  -- its first two sentences, of the chains
+  pub listing : HoldsJust (SimplePath file q) (askedFault file q) (listingFor file q)
   -- "The join route lists the same paths, shortest first."
   pub joinRoute : JoinRoute file q
-  -- so the listing is the only list that is so
-  pub noOther : (L : List (List ℕ)) → Rising Before L → ((c : List ℕ) → c ∈ L ↔ SimplePath file q c) → L ≡ listingFor file q
-  -- and a portion from a fresh start lists it
-  pub portion : {out out′ : List ℕ} {answer : Answer} → recordSize ≤ length out → Portioned file q fresh out out′ answer → Lists (listingFor file q) out out′ answer
 
 -- one of the calls says ended
 abbrev pub SomeEnded : List Call → Type 0
 SomeEnded [] = ⊥
 SomeEnded (call ∷ calls) = (saysEnded (answerSaid (call .answer)) ≡ true) ⊎ SomeEnded calls
 
--- Demand 3, of a file and a question that pass
-pub record DemandThree (file : List ℕ) (q : Question) : Type 0 where
+-- What demand 3 says of a listing, of which this is the first fault
+pub record InPortions (first : Fault) (chains : List (List ℕ)) : Type 0 where
   -- "Take one file that passes, one question that passes, and any sequence of portions. Each starts after the last chain handed over, or
   -- fresh if none has been, and has room for at least one." That is a `Run` from `fresh` on.
   -- "Laid end to end they are the first chains of demand 2's listing, as many as their rooms add up to, or all of it."
-  pub laidEndToEnd : {calls : List Call} → Run file q fresh calls → allWrote calls ≡ cellsOf recordSize (take (allRoom calls) (listingFor file q))
+  pub laidEndToEnd : {calls : List Call} → Run first chains fresh calls → allWrote calls ≡ cellsOf recordSize (take (allRoom calls) chains)
   -- "Every portion brings a chain until the listing is exhausted, and one says "ended" exactly when no chain follows it."
-  pub bringsAndEnds : {calls : List Call} → Run file q fresh calls → Brings (listingFor file q) calls × EndsRight (listingFor file q) calls
+  pub bringsAndEnds : {calls : List Call} → Run first chains fresh calls → Brings chains calls × EndsRight chains calls
   -- once one says so, the whole listing was handed over
-  pub whole : {calls : List Call} → Run file q fresh calls → SomeEnded calls → allWrote calls ≡ cellsOf recordSize (listingFor file q)
+  pub whole : {calls : List Call} → Run first chains fresh calls → SomeEnded calls → allWrote calls ≡ cellsOf recordSize chains
   -- the same after a bookmark that somebody kept: the rest of the listing, from the chain behind it on
-  pub resumed : (bookmark : List ℕ) {calls : List Call} → startFault (listingFor file q) (bookmarked bookmark) ≡ sound → Run file q (bookmarked bookmark) calls → Resumed file q bookmark calls
+  pub resumed : (bookmark : List ℕ) {calls : List Call} → startFault chains (bookmarked bookmark) ≡ sound → Run first chains (bookmarked bookmark) calls → ResumedIn chains bookmark calls
+  -- there too, once one says ended, all that was left was handed over
+  pub wholeRest : {left : List (List ℕ)} {calls : List Call} → Laid left calls → SomeEnded calls → allWrote calls ≡ cellsOf recordSize left
+
+-- Demand 3, of a file and a question that pass
+pub record DemandThree (file : List ℕ) (q : Question) : Type 0 where
+  -- all of it, of the chains
+  pub portions : InPortions (askedFault file q) (listingFor file q)
   -- the same of the calls of one held listing, whether it was started before or not; refused ones may stand between them
   pub held : {held held′ : Held} {calls : List Call} → held .question ≡ q → held .started ≡ 0 → HeldRun file held calls held′ → LaidEndToEnd file q calls
   pub heldResumed : {held held′ : Held} {calls : List Call} → held .question ≡ q → held .started ≢ 0 → startFault (listingFor file q) (bookmarked (held .«record»)) ≡ sound → HeldRun file held calls held′
       → Resumed file q (held .«record») calls
-  -- there too, once one says ended, all that was left was handed over
-  pub wholeRest : {left : List (List ℕ)} {calls : List Call} → Laid left calls → SomeEnded calls → allWrote calls ≡ cellsOf recordSize left
-  -- and after it nothing more comes
+  -- and after one that says ended nothing more comes
   pub heldEnded : {held held′ held″ : Held} {out out′ : List ℕ} {answer : Answer} {count : ℕ} {calls : List Call} → MovedOn file held held′ out out′ answer
       → answerSaid answer ≡ listed count true → HeldRun file held′ calls held″ → (held″ ≡ held′) × Quiet calls
 

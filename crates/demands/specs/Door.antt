@@ -55,7 +55,7 @@ pub record AtTheDoor : Type 0 where
   pub kinRow : (file : List ℕ) (person : ℕ) {answer : ℕ} → RowNumber file person answer → answer < 2 ^ 63
   pub kinFewest : (file : List ℕ) (q : Question) (person : ℕ) {answer : ℕ} → FewestNumber file q person answer
       → Tells (firstOf (fileFault file) (personFault (personCount file) q person)) askedNumbers answer NothingLent (FewestFrom file q person answer)
-  pub kinPortion : {file : List ℕ} {q : Question} {start : Start} {out out′ : List ℕ} {answer : ℕ} → PortionNumber file q start out out′ answer
+  pub kinPortion : (file : List ℕ) (q : Question) {start : Start} {out out′ : List ℕ} {answer : ℕ} → PortionNumber file q start out out′ answer
       → Tells (portionFault file q start out) portionNumbers answer (out′ ≡ out) (Listed answer (length (portionFor file q start out)) (endedFor file q start out))
   pub kinHeld : {file cells cells′ out out′ : List ℕ} {answer : ℕ} → HeldNumber file cells cells′ out out′ answer
       → Tells (heldFault file cells out) (0 ∷ portionNumbers) answer ((cells′ ≡ cells) × (out′ ≡ out))
