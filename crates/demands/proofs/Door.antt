@@ -34,6 +34,8 @@ use Rattle.listing.specs.Answers.{PortionOf}
 use Rattle.refusals.specs.Answers.{Answer, listed, refused, answerSaid, answerFor}
 use Rattle.refusals.specs.declared.Answer as code
 use Rattle.portion.proofs.Instance.{portion-numbered, chains-listing}
+use Rattle.rings.specs.Rings.{ringsNumbers}
+use Rattle.rings.proofs.Instance.{rings-numbered}
 use Rattle.listing.proofs.Known.{portion-in, kept}
 use Rattle.listing.proofs.Telling.{sound-first}
 use Rattle.held.specs.declared.Held.{Held}
@@ -215,4 +217,16 @@ module _ {file cells cells′ out out′ : List ℕ} {answer : ℕ} (h : HeldNum
   kin-held-moves whole = let m = h .moved whole in (m .answer, moves-on whole m, m .answers)
 
 pub at-the-door : AtTheDoor
-at-the-door = record { kinCheck = kin-check; kinRow = kin-row; kinFewest = kin-fewest; kinPortion = λ file q {start} {out} p. kin-listing portionNumbers refl (portion-numbered file q start out) p; kinHeld = kin-held; kinHeldMoves = kin-held-moves; kinHeldStored = stored-as-today; kinHeldStays = kin-held-stays; kinJoin = kin-join }
+at-the-door =
+    record {
+      kinCheck = kin-check;
+      kinRow = kin-row;
+      kinFewest = kin-fewest;
+      kinPortion = λ file q {start} {out} p. kin-listing portionNumbers refl (portion-numbered file q start out) p;
+      kinRings = λ file q {start} {out} p. kin-listing ringsNumbers refl (rings-numbered file q start out) p;
+      kinHeld = kin-held;
+      kinHeldMoves = kin-held-moves;
+      kinHeldStored = stored-as-today;
+      kinHeldStays = kin-held-stays;
+      kinJoin = kin-join;
+    }

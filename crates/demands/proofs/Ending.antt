@@ -30,6 +30,8 @@ use Rattle.listing.proofs.Telling.{refused-fault}
 use Rattle.refusals.specs.Answers.{refused, answerSaid, answerFor}
 use Rattle.refusals.specs.declared.Answer.{Answer}
 use Rattle.portion.proofs.Instance.{portion-numbered}
+use Rattle.rings.specs.Rings.{ringsNumbers}
+use Rattle.rings.proofs.Instance.{rings-numbered}
 use Rattle.join.specs.Lists.{chainsFor, joinFault, joinNumbers, firstOnes, allFit}
 use Rattle.join.specs.Answers.{Joins}
 use Rattle.join.proofs.Numbered.{join-numbered}
@@ -100,6 +102,7 @@ every-ends =
       row = row-ends;
       fewest = fewest-ends;
       portion = chains-end;
+      rings = λ file q {start} {out} p. portion-ends ringsNumbers (rings-numbered file q start out) p;
       held = λ {file} {held} m. chains-end file (held .question) (m .portioned);
       join = join-ends;
     }
@@ -113,6 +116,7 @@ pub refusal-leaves : RefusalLeaves
 refusal-leaves =
     record {
       portion = λ file q p said. p .cells ∙ rw (refused-fault p said);
+      rings = λ file q p said. p .cells ∙ rw (refused-fault p said);
       held = λ m said. let e = refused-fault (m .portioned) said in (m .keeps ∙ rw e, m .portioned .cells ∙ rw e);
       join = λ file q {working} {working′} {out} j said. let f = first-fault (joinFault file q working out) (join-ends file q j) said in (j .shelf ∙ rw (f .2), j .cells ∙ rw (f .2));
     }

@@ -14,8 +14,9 @@ use Rattle.question.specs.declared.Question.{Question}
 use Rattle.distance.specs.Answers as distance
 use Rattle.distance.specs.declared.HopsAnswer as distance-code
 use Rattle.distance.proofs.OneResult.{fewest-one}
-use Rattle.question.specs.Asked.{askedFault}
+use Rattle.question.specs.Asked.{askedFault, ringsAskedFault}
 use Rattle.portion.specs.Listing.{listingFor, portionFault, portionFor}
+use Rattle.rings.specs.Rings.{ringsFor}
 use Rattle.listing.specs.Portions.{Start, refusalOf, portionOf, endedOf}
 use Rattle.listing.specs.Answers.{PortionOf}
 use Rattle.refusals.specs.Faults.{Fault, lent}
@@ -92,6 +93,7 @@ one-result =
       row = row-just;
       fewest = λ file q person. record { some = hops-told (distance.answered file q person); only = λ one other. fewest-one file q person };
       portion = λ file q. portion-just (askedFault file q) (listingFor file q);
+      rings = λ file q. portion-just (ringsAskedFault file q) (ringsFor file q);
       held = held-just;
       join = join-just;
     }

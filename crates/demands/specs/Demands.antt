@@ -1,10 +1,10 @@
 -- The customer's three demands, one statement each. Each of the customer's sentences stands word for word above the one field that says it; the first two
--- of demand 3 say what is given, which is a `Run`. Fields that no sentence stands above say more: what follows, what the operations write, and the
+-- of demand 3 say what is given, which is a `Run`. Demands 2 and 3 are said of any listing, then of the chains and of the rings. Fields that no sentence stands above say more: what follows, what the operations write, and the
 -- same after bookmarks and of held listings. Definitions only; proofs/Demands proves them.
 use mathlib.Core.Path.{_≡_}
 use mathlib.Core.Logic.{_≢_, _↔_, _⊎_}
 use mathlib.Core.Bool.{true}
-use mathlib.Core.List.{List, [], _∷_}
+use mathlib.Core.List.{List, [], _∷_, reverse}
 use Prim.Native.Nat.{ℕ, _≤_}
 use lib.ListN.{length, take}
 use denote.Ref.{RefT, now}
@@ -15,16 +15,17 @@ use Rattle.checking.specs.Checked.{fileFault, fileNumbers}
 use Rattle.checking.specs.Answers.{verdictSaid, Checks, Views}
 use Rattle.checking.specs.declared.Verdict.{Verdict}
 use Rattle.ways.specs.Graph.{_∈_}
-use Rattle.ways.specs.Chain.{Distinct}
+use Rattle.ways.specs.Chain.{Distinct, hops}
 use Rattle.ways.specs.Order.{Before, Rising}
 use Rattle.ways.specs.ByHops.{Sooner}
 use Rattle.ways.specs.Records.{cellsOf, written}
 use Rattle.ways.specs.Sizes.{recordSize}
 use Rattle.question.specs.declared.Question.{Question}
-use Rattle.question.specs.Asked.{personFault, askedFault, askedNumbers}
+use Rattle.question.specs.Asked.{personFault, askedFault, askedNumbers, ringsAskedFault}
 use Rattle.distance.specs.Answers as distance
-use Rattle.distance.specs.declared.HopsAnswer as hops
+use Rattle.distance.specs.declared.HopsAnswer as distance-code
 use Rattle.portion.specs.Listing.{listingFor, portionFault, portionNumbers, Portioned, LaidEndToEnd, Resumed}
+use Rattle.rings.specs.Rings.{ringsFor, ringsFault, ringsNumbers, RingsPortioned}
 use Rattle.listing.specs.Portions.{Start, fresh, bookmarked, startFault}
 use Rattle.refusals.specs.Answers.{listed, refused, answerSaid}
 use Rattle.listing.specs.Answers.{PortionOf}
@@ -37,7 +38,7 @@ use Rattle.held.specs.Calls.{Run as HeldRun}
 use Rattle.join.specs.Lists.{halvesFor, chainsFor, halvesFault, joinFault, joinNumbers, firstOnes, allFit}
 use Rattle.join.specs.Answers.{Joins}
 use Rattle.demands.specs.OneResult.{OneResult}
-use Rattle.demands.specs.Paths.{SimplePath, HalfPath, FewestFrom}
+use Rattle.demands.specs.Paths.{Reached, SimplePath, RingPath, HalfPath, FewestFrom}
 
 -- How an operation ends of which this is the first fault, in the order of the customer's table: with its answer; or with the number of
 -- that fault, one of those that the operation gives, and its place
@@ -50,10 +51,12 @@ pub record EveryEnds : Type 0 where
   pub check : (file : List ℕ) (answer : Verdict) → Checks file answer → Ends verdict.refused (fileFault file) fileNumbers (verdictSaid answer)
   -- "For a refused file, or a person out of range, the part is empty and no number comes with it"
   pub row : (file view : RefT (List ℕ)) (person : ℕ) → Views file person view → (fileFault (now file) ≢ sound) ⊎ (personCount (now file) ≤ person) → now view ≡ []
-  pub fewest : (file : List ℕ) (q : Question) (person : ℕ) (answer : hops.HopsAnswer) → distance.FewestHops file q person answer
+  pub fewest : (file : List ℕ) (q : Question) (person : ℕ) (answer : distance-code.HopsAnswer) → distance.FewestHops file q person answer
       → Ends distance.refused (firstOf (fileFault file) (personFault (personCount file) q person)) askedNumbers (distance.hopsSaid answer)
   pub portion : (file : List ℕ) (q : Question) {start : Start} {out out′ : List ℕ} {answer : Answer} → Portioned file q start out out′ answer
       → Ends refused (portionFault file q start out) portionNumbers (answerSaid answer)
+  pub rings : (file : List ℕ) (q : Question) {start : Start} {out out′ : List ℕ} {answer : Answer} → RingsPortioned file q start out out′ answer
+      → Ends refused (ringsFault file q start out) ringsNumbers (answerSaid answer)
   pub held : {file : List ℕ} {held held′ : Held} {out out′ : List ℕ} {answer : Answer} → MovedOn file held held′ out out′ answer
       → Ends refused (portionFault file (held .question) (startOf held) out) portionNumbers (answerSaid answer)
   pub join : (file : List ℕ) (q : Question) {working working′ out out′ : List ℕ} {answer : Answer} → Joins file q working working′ out out′ answer
@@ -63,6 +66,8 @@ pub record EveryEnds : Type 0 where
 -- write through such a loan, so no promise has to say that they stay
 pub record RefusalLeaves : Type 0 where
   pub portion : (file : List ℕ) (q : Question) {start : Start} {out out′ : List ℕ} {answer : Answer} {number place : ℕ} → Portioned file q start out out′ answer
+      → answerSaid answer ≡ refused number place → out′ ≡ out
+  pub rings : (file : List ℕ) (q : Question) {start : Start} {out out′ : List ℕ} {answer : Answer} {number place : ℕ} → RingsPortioned file q start out out′ answer
       → answerSaid answer ≡ refused number place → out′ ≡ out
   pub held : {file : List ℕ} {held held′ : Held} {out out′ : List ℕ} {answer : Answer} {number place : ℕ} → MovedOn file held held′ out out′ answer
       → answerSaid answer ≡ refused number place → (held′ ≡ held) × (out′ ≡ out)
@@ -85,7 +90,7 @@ pub record Lists (chains : List (List ℕ)) (out out′ : List ℕ) (answer : An
   pub says : answerSaid answer ≡ listed (length (firstOnes chains out)) (allFit chains out)
   pub cells : out′ ≡ written recordSize (firstOnes chains out) out
 
--- What demand 2 says of a listing, of which this is the first fault: it holds just what `Is` says, in the customer's words
+-- What demand 2 says of a listing, of which this is the first fault: it holds just what `Is` says, a chain or a ring in the customer's words
 pub record HoldsJust (Is : List ℕ → Type 0) (first : Fault) (chains : List (List ℕ)) : Type 0 where
   -- "The listing from one person to another holds every simple path of at most the asked number of hops over admitted links, as the
   -- published definition of hop-constrained path enumeration has it."
@@ -156,6 +161,18 @@ pub record DemandThree (file : List ℕ) (q : Question) : Type 0 where
   pub heldEnded : {held held′ held″ : Held} {out out′ : List ℕ} {answer : Answer} {count : ℕ} {calls : List Call} → MovedOn file held held′ out out′ answer
       → answerSaid answer ≡ listed count true → HeldRun file held′ calls held″ → (held″ ≡ held′) × Quiet calls
 
+-- Demands 2 and 3 of the rings of a person, of a file and a question for rings that pass
+pub record RingsAsSaid (file : List ℕ) (q : Question) : Type 0 where
+  -- "For one person, list every ring: 2 to k admitted hops, starting and ending at that person, all others different from it and each other."
+  pub everyRing : HoldsJust (RingPath file q) (ringsAskedFault file q) (ringsFor file q)
+  -- "Portions, bookmarks and order are those of the chain listing, and demand 3 holds for rings too."
+  pub portions : InPortions (ringsAskedFault file q) (ringsFor file q)
+  -- with one hop there is none
+  pub oneHop : q .hops ≡ 1 → ringsFor file q ≡ []
+  -- where every hop has an admitted link back, the other direction is listed too; it is another ring, but with two hops
+  pub otherDirection : (c : List ℕ) → c ∈ ringsFor file q → Reached file q (reverse c) → reverse c ∈ ringsFor file q
+  pub twoRings : (c : List ℕ) → c ∈ ringsFor file q → 3 ≤ hops c → reverse c ≢ c
+
 -- Beside the demands, of every file and question: the number that is answered for a person is the fewest hops by the customer's sentence
 pub record FewestAsSaid : Type 0 where
-  pub fewest : (file : List ℕ) (q : Question) (person d : ℕ) (answer : hops.HopsAnswer) → distance.FewestHops file q person answer → distance.hopsSaid answer ≡ distance.hops d → FewestFrom file q person d
+  pub fewest : (file : List ℕ) (q : Question) (person d : ℕ) (answer : distance-code.HopsAnswer) → distance.FewestHops file q person answer → distance.hopsSaid answer ≡ distance.hops d → FewestFrom file q person d
