@@ -62,3 +62,8 @@ ask hops classes meaning first last undated =
 -- "Q is 0 to 5, hops 4, classes 15, meaning 1, days 1 to 3,652,059.", and undated links are admitted
 abbrev pub Q : Question
 Q = ask 4 15 1 1 3652059 1
+
+-- the rings of a person, in so many hops, over the links that Q admits
+abbrev pub askRings : ℕ → ℕ → Question
+askRings person hops =
+    record { from = person; to = person; hops = hops; classes = 15; meaning = 1; first = 1; last = 3652059; undated = 1 }

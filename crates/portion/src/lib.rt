@@ -29,5 +29,9 @@ pub fn portion(
     ) {
         return Answer::Refused { number, place };
     }
-    starting::list(file, question, started, bookmark, out)
+    // Two calls, so that the compiler does not lay it in here: a refusal takes no stack for the graph and the search.
+    if started == 0 {
+        return starting::list(file, question, 0, bookmark, out);
+    }
+    starting::list(file, question, 1, bookmark, out)
 }
