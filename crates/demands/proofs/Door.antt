@@ -28,21 +28,24 @@ use Rattle.question.specs.Asked.{personFault, askedFault, askedNumbers}
 use Rattle.question.proofs.Numbered.{person-numbered}
 use Rattle.question.proofs.Refused.{person-proper}
 use Rattle.distance.specs.Answers as distance
-use Rattle.portion.specs.Listing.{listingFor, portionFault, portionNumbers, portionFor, endedFor, Portioned}
-use Rattle.listing.specs.Portions.{Start}
+use Rattle.portion.specs.Listing.{listingFor, portionFault, portionNumbers, portionFor, endedFor}
+use Rattle.listing.specs.Portions.{Start, refusalOf, portionOf, endedOf}
+use Rattle.listing.specs.Answers.{PortionOf}
 use Rattle.refusals.specs.Answers.{Answer, listed, refused, answerSaid, answerFor}
 use Rattle.refusals.specs.declared.Answer as code
 use Rattle.portion.proofs.Instance.{portion-numbered, chains-listing}
+use Rattle.rings.specs.Rings.{ringsNumbers}
+use Rattle.rings.proofs.Instance.{rings-numbered}
 use Rattle.listing.proofs.Known.{portion-in, kept}
 use Rattle.listing.proofs.Telling.{sound-first}
 use Rattle.held.specs.declared.Held.{Held}
 use Rattle.held.specs.Holding.{startOf, MovedOn}
 use Rattle.join.specs.Lists.{chainsFor, joinFault, joinNumbers, firstOnes, allFit}
 use Rattle.join.proofs.Numbered.{join-numbered}
-use Rattle.outside.specs.Encoded.{refusalNumber, endedNumber, listedNumber, Small, CheckNumber, RowNumber, FewestNumber, PortionNumber, JoinNumber}
+use Rattle.outside.specs.Encoded.{refusalNumber, endedNumber, listedNumber, Small, CheckNumber, RowNumber, FewestNumber, ListingNumber, JoinNumber}
 use Rattle.outside.specs.HeldCells.{heldWhole, heldOf, heldCells, MovedCells, HeldNumber}
 use Rattle.outside.specs.TakenApart.{countIn, personsIn, linksIn, feedsIn}
-use Rattle.outside.proofs.Numbered.{ended-few}
+use Rattle.outside.proofs.Numbered.{ended-few, highest}
 use Rattle.outside.proofs.HeldCells.{whole-sizes, held-kept, movedTo, held-back}
 use Rattle.outside.proofs.OneResult.{stored-as-today}
 use Rattle.outside.proofs.TakenApart.{refusal-apart, listed-apart, counts-apart}
@@ -52,7 +55,7 @@ use Rattle.demands.proofs.Ending.{viewBy}
 use Rattle.demands.proofs.Fewest.{fewest-from}
 
 -- what a number tells by the first fault
-tells : (first : Fault) (numbers : List ℕ) {answer : ℕ} {Unchanged Answers : Type 0} → upTo 20 numbers ≡ true → Numbered numbers first → (first ≡ sound → (answer < 2 ^ 63) × Answers)
+tells : (first : Fault) (numbers : List ℕ) {answer : ℕ} {Unchanged Answers : Type 0} → upTo highest numbers ≡ true → Numbered numbers first → (first ≡ sound → (answer < 2 ^ 63) × Answers)
     → ((number place : ℕ) → first ≡ fault number place → (answer ≡ refusalNumber number place) × Unchanged) → Tells first numbers answer Unchanged Answers
 tells sound numbers few numbered passes fails =
     record {
@@ -63,7 +66,7 @@ tells sound numbers few numbered passes fails =
     }
 tells (fault r p) numbers few numbered passes fails =
     let told = fails r p refl in
-    let parts = refusal-apart r p (omega (arith, up-to 20 numbers few (numbered .0))) (numbered .1) in
+    let parts = refusal-apart r p (omega (arith, up-to highest numbers few (numbered .0))) (numbered .1) in
     record {
       refused = (λ h e. let z : _≡_ {A = ℕ} 0 1 = cc in omega arith, λ n. omega (arith, told .0));
       apart = λ number place e. let same : r ≡ number = cc in let there : p ≡ place = cc in (rw (told .0) (parts .0) ∙ same, rw (told .0) (parts .1) ∙ there, Memᴰ·cast (sym same) (numbered .0));
@@ -108,8 +111,8 @@ kin-fewest file q person {answer} is =
     (omega (arith, told, fewest-cap (next file q) (q .to) (q .hops) person, proper .most), rw told (fewest-from file q person)))
     (λ number place e. (is ∙ rw e, tt))
 
--- portion, held listing and join are told alike
-listing-tells : (first : Fault) (numbers : List ℕ) (count : ℕ) (ended : Bool) {said : Answer} {answer : ℕ} {Unchanged : Type 0} → upTo 20 numbers ≡ true → Numbered numbers first → said ≡ answerFor first count ended → Small said → answer ≡ listedNumber said
+-- a portion of any listing and a join are told alike
+listing-tells : (first : Fault) (numbers : List ℕ) (count : ℕ) (ended : Bool) {said : Answer} {answer : ℕ} {Unchanged : Type 0} → upTo highest numbers ≡ true → Numbered numbers first → said ≡ answerFor first count ended → Small said → answer ≡ listedNumber said
     → ((number place : ℕ) → first ≡ fault number place → Unchanged) → Tells first numbers answer Unchanged (Listed answer count ended)
 listing-tells first numbers count ended {said} {answer} few numbered is small told unchanged =
     tells first numbers few numbered
@@ -120,15 +123,17 @@ listing-tells first numbers count ended {said} {answer} few numbered is small to
     (omega (arith, number, fits, ended-few ended), rw number (listed-apart count ended fits)))
     (λ number place e. (told ∙ rw (is, e), unchanged number place e))
 
-portion-tells : (file : List ℕ) (q : Question) {start : Start} {out out′ : List ℕ} {answer : code.Answer} {number : ℕ} {Unchanged : Type 0} → Portioned file q start out out′ answer → Small (answerSaid answer) → number ≡ listedNumber (answerSaid answer)
-    → ((r place : ℕ) → portionFault file q start out ≡ fault r place → Unchanged)
-    → Tells (portionFault file q start out) portionNumbers number Unchanged (Listed number (length (portionFor file q start out)) (endedFor file q start out))
-portion-tells file q {start} {out} p small told unchanged =
-    listing-tells (portionFault file q start out) portionNumbers (length (portionFor file q start out)) (endedFor file q start out) refl (portion-numbered file q start out) (p .answers) small told unchanged
+portion-tells : {first : Fault} {chains : List (List ℕ)} {start : Start} {out out′ : List ℕ} {answer : code.Answer} {number : ℕ} {Unchanged : Type 0} (numbers : List ℕ) → upTo highest numbers ≡ true → Numbered numbers (refusalOf first chains start out)
+    → PortionOf first chains start out out′ answer → Small (answerSaid answer) → number ≡ listedNumber (answerSaid answer)
+    → ((r place : ℕ) → refusalOf first chains start out ≡ fault r place → Unchanged)
+    → Tells (refusalOf first chains start out) numbers number Unchanged (Listed number (length (portionOf chains start out)) (endedOf chains start out))
+portion-tells {first} {chains} {start} {out} numbers few numbered p small told unchanged =
+    listing-tells (refusalOf first chains start out) numbers (length (portionOf chains start out)) (endedOf chains start out) few numbered (p .answers) small told unchanged
 
-kin-portion : {file : List ℕ} {q : Question} {start : Start} {out out′ : List ℕ} {answer : ℕ} → PortionNumber file q start out out′ answer
-    → Tells (portionFault file q start out) portionNumbers answer (out′ ≡ out) (Listed answer (length (portionFor file q start out)) (endedFor file q start out))
-kin-portion {file} {q} p = portion-tells file q (p .portioned) (p .small) (p .answers) (λ number place e. p .portioned .cells ∙ rw e)
+-- what is answered for one
+kin-listing : {first : Fault} {chains : List (List ℕ)} {start : Start} {out out′ : List ℕ} {answer : ℕ} (numbers : List ℕ) → upTo highest numbers ≡ true → Numbered numbers (refusalOf first chains start out) → ListingNumber first chains start out out′ answer
+    → Tells (refusalOf first chains start out) numbers answer (out′ ≡ out) (Listed answer (length (portionOf chains start out)) (endedOf chains start out))
+kin-listing numbers few numbered p = portion-tells numbers few numbered (p .portioned) (p .small) (p .answers) (λ number place e. p .portioned .cells ∙ rw e)
 
 kin-join : {file : List ℕ} {q : Question} {working working′ out out′ : List ℕ} {answer : ℕ} → JoinNumber file q working working′ out out′ answer
     → Tells (joinFault file q working out) joinNumbers answer ((working′ ≡ working) × (out′ ≡ out)) (Listed answer (length (firstOnes (chainsFor file q) out)) (allFit (chainsFor file q) out))
@@ -147,7 +152,7 @@ module _ {file cells cells′ out out′ : List ℕ} {answer : ℕ} (whole : hel
 
   moved-tells : Tells (portionFault file (heldOf cells .question) (startOf (heldOf cells)) out) portionNumbers answer ((cells′ ≡ cells) × (out′ ≡ out))
       (Listed answer (length (portionFor file (heldOf cells .question) (startOf (heldOf cells)) out)) (endedFor file (heldOf cells .question) (startOf (heldOf cells)) out))
-  moved-tells = portion-tells file (heldOf cells .question) (m .moves .portioned) (m .small) (m .answers) refused-stays
+  moved-tells = portion-tells portionNumbers refl (portion-numbered file (heldOf cells .question) (startOf (heldOf cells)) out) (m .moves .portioned) (m .small) (m .answers) refused-stays
 
   -- a portion of no chains leaves them too
   none-stays : countIn answer ≡ 0 → (cells′ ≡ cells) × (out′ ≡ out)
@@ -212,4 +217,16 @@ module _ {file cells cells′ out out′ : List ℕ} {answer : ℕ} (h : HeldNum
   kin-held-moves whole = let m = h .moved whole in (m .answer, moves-on whole m, m .answers)
 
 pub at-the-door : AtTheDoor
-at-the-door = record { kinCheck = kin-check; kinRow = kin-row; kinFewest = kin-fewest; kinPortion = kin-portion; kinHeld = kin-held; kinHeldMoves = kin-held-moves; kinHeldStored = stored-as-today; kinHeldStays = kin-held-stays; kinJoin = kin-join }
+at-the-door =
+    record {
+      kinCheck = kin-check;
+      kinRow = kin-row;
+      kinFewest = kin-fewest;
+      kinPortion = λ file q {start} {out} p. kin-listing portionNumbers refl (portion-numbered file q start out) p;
+      kinRings = λ file q {start} {out} p. kin-listing ringsNumbers refl (rings-numbered file q start out) p;
+      kinHeld = kin-held;
+      kinHeldMoves = kin-held-moves;
+      kinHeldStored = stored-as-today;
+      kinHeldStays = kin-held-stays;
+      kinJoin = kin-join;
+    }

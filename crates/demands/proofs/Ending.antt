@@ -23,12 +23,15 @@ use Rattle.question.specs.Asked.{personFault, askedNumbers}
 use Rattle.question.proofs.Numbered.{person-numbered}
 use Rattle.distance.specs.Answers as distance
 use Rattle.distance.specs.declared.HopsAnswer as hops
-use Rattle.portion.specs.Listing.{portionFault, portionNumbers, portionFor, endedFor, Portioned}
-use Rattle.listing.specs.Portions.{Start}
+use Rattle.portion.specs.Listing.{portionFault, portionNumbers, Portioned}
+use Rattle.listing.specs.Portions.{Start, refusalOf, portionOf, endedOf}
+use Rattle.listing.specs.Answers.{PortionOf}
+use Rattle.listing.proofs.Telling.{refused-fault}
 use Rattle.refusals.specs.Answers.{refused, answerSaid, answerFor}
 use Rattle.refusals.specs.declared.Answer.{Answer}
 use Rattle.portion.proofs.Instance.{portion-numbered}
-use Rattle.held.specs.Holding.{startOf}
+use Rattle.rings.specs.Rings.{ringsNumbers}
+use Rattle.rings.proofs.Instance.{rings-numbered}
 use Rattle.join.specs.Lists.{chainsFor, joinFault, joinNumbers, firstOnes, allFit}
 use Rattle.join.specs.Answers.{Joins}
 use Rattle.join.proofs.Numbered.{join-numbered}
@@ -73,15 +76,19 @@ fewest-ends file q person answer is =
     ends-by distance.refused (λ f. distance.unlessRefused f (fewest (next file q) (q .to) (q .hops) person)) (λ number place. refl)
     (λ number place e. let z : _≡_ {A = ℕ} 0 1 = cc in omega arith) (firstOf (fileFault file) (personFault (personCount file) q person)) askedNumbers (person-numbered file q person) is
 
--- portion, held listing and join answer alike
+-- a portion of any listing and a join answer alike
 listing-ends : (first : Fault) (numbers : List ℕ) (count : ℕ) (ended : Bool) (answer : Answer) → Numbered numbers first → answerSaid answer ≡ answerFor first count ended → Ends refused first numbers (answerSaid answer)
 listing-ends first numbers count ended answer numbered is =
     ends-by refused (λ f. answerFor f count ended) (λ number place. refl) (λ number place e. let z : _≡_ {A = ℕ} 0 1 = cc in omega arith) first numbers numbered is
 
-portion-ends : (file : List ℕ) (q : Question) {start : Start} {out out′ : List ℕ} {answer : Answer} → Portioned file q start out out′ answer
+portion-ends : {first : Fault} {chains : List (List ℕ)} {start : Start} {out out′ : List ℕ} {answer : Answer} (numbers : List ℕ) → Numbered numbers (refusalOf first chains start out) → PortionOf first chains start out out′ answer
+    → Ends refused (refusalOf first chains start out) numbers (answerSaid answer)
+portion-ends {first} {chains} {start} {out} {answer = answer} numbers numbered p =
+    listing-ends (refusalOf first chains start out) numbers (length (portionOf chains start out)) (endedOf chains start out) answer numbered (p .answers)
+
+chains-end : (file : List ℕ) (q : Question) {start : Start} {out out′ : List ℕ} {answer : Answer} → Portioned file q start out out′ answer
     → Ends refused (portionFault file q start out) portionNumbers (answerSaid answer)
-portion-ends file q {start} {out} {answer = answer} p =
-    listing-ends (portionFault file q start out) portionNumbers (length (portionFor file q start out)) (endedFor file q start out) answer (portion-numbered file q start out) (p .answers)
+chains-end file q {start} {out} p = portion-ends portionNumbers (portion-numbered file q start out) p
 
 join-ends : (file : List ℕ) (q : Question) {working working′ out out′ : List ℕ} {answer : Answer} → Joins file q working working′ out out′ answer
     → Ends refused (joinFault file q working out) joinNumbers (answerSaid answer)
@@ -89,9 +96,18 @@ join-ends file q {working} {out = out} {answer = answer} j =
     listing-ends (joinFault file q working out) joinNumbers (length (firstOnes (chainsFor file q) out)) (allFit (chainsFor file q) out) answer (join-numbered file q working out) (j .answers)
 
 pub every-ends : EveryEnds
-every-ends = record { check = check-ends; row = row-ends; fewest = fewest-ends; portion = portion-ends; held = λ {file} {held} m. portion-ends file (held .question) (m .portioned); join = join-ends }
+every-ends =
+    record {
+      check = check-ends;
+      row = row-ends;
+      fewest = fewest-ends;
+      portion = chains-end;
+      rings = λ file q {start} {out} p. portion-ends ringsNumbers (rings-numbered file q start out) p;
+      held = λ {file} {held} m. chains-end file (held .question) (m .portioned);
+      join = join-ends;
+    }
 
--- where an operation answered a refusal, there was a fault
+-- where a join answered a refusal, there was a fault, as `refused-fault` has it of a portion
 first-fault : {A : Type 0} {refused : ℕ → ℕ → A} (first : Fault) {numbers : List ℕ} {number place : ℕ} {answer : A} → Ends refused first numbers answer → answer ≡ refused number place → (n : ℕ) × (p : ℕ) × (first ≡ fault n p)
 first-fault sound {number = number} {place} ends said = absurd (ends .answers refl number place said)
 first-fault (fault n p) ends said = (n, p, refl)
@@ -99,7 +115,8 @@ first-fault (fault n p) ends said = (n, p, refl)
 pub refusal-leaves : RefusalLeaves
 refusal-leaves =
     record {
-      portion = λ file q {start} {out} p said. let f = first-fault (portionFault file q start out) (portion-ends file q p) said in p .cells ∙ rw (f .2);
-      held = λ {file} {held} {held′} {out} m said. let f = first-fault (portionFault file (held .question) (startOf held) out) (portion-ends file (held .question) (m .portioned)) said in (m .keeps ∙ rw (f .2), m .portioned .cells ∙ rw (f .2));
+      portion = λ file q p said. p .cells ∙ rw (refused-fault p said);
+      rings = λ file q p said. p .cells ∙ rw (refused-fault p said);
+      held = λ m said. let e = refused-fault (m .portioned) said in (m .keeps ∙ rw e, m .portioned .cells ∙ rw e);
       join = λ file q {working} {working′} {out} j said. let f = first-fault (joinFault file q working out) (join-ends file q j) said in (j .shelf ∙ rw (f .2), j .cells ∙ rw (f .2));
     }

@@ -3,6 +3,7 @@ pub mod OneResult
 pub mod Ending
 pub mod Paths
 pub mod Laid
+pub mod Rings
 pub mod Fewest
 pub mod Undated
 pub mod Door

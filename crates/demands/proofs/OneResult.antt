@@ -14,9 +14,12 @@ use Rattle.question.specs.declared.Question.{Question}
 use Rattle.distance.specs.Answers as distance
 use Rattle.distance.specs.declared.HopsAnswer as distance-code
 use Rattle.distance.proofs.OneResult.{fewest-one}
-use Rattle.portion.specs.Listing.{portionFault, portionFor, endedFor, Portioned}
-use Rattle.listing.specs.Portions.{Start}
-use Rattle.refusals.specs.Faults.{lent}
+use Rattle.question.specs.Asked.{askedFault, ringsAskedFault}
+use Rattle.portion.specs.Listing.{listingFor, portionFault, portionFor}
+use Rattle.rings.specs.Rings.{ringsFor}
+use Rattle.listing.specs.Portions.{Start, refusalOf, portionOf, endedOf}
+use Rattle.listing.specs.Answers.{PortionOf}
+use Rattle.refusals.specs.Faults.{Fault, lent}
 use Rattle.refusals.specs.Answers.{Answer, listed, refused, answerSaid, answerFor, cellsFor}
 use Rattle.refusals.specs.declared.Answer as code
 use Rattle.listing.proofs.OneResult.{portion-one}
@@ -56,17 +59,18 @@ row-just file person =
       only = λ one other a b. let e = row-one (a .1) (b .1) in same-two (e .1) (e .0);
     }
 
-portion-just : (file : List ℕ) (q : Question) (start : Start) (out : List ℕ) → JustOne {R = code.Answer × List ℕ} (λ r. Portioned file q start out (r .1) (r .0))
-portion-just file q start out =
-    let a = told (answerFor (portionFault file q start out) (length (portionFor file q start out)) (endedFor file q start out)) in
+-- a portion of any listing
+portion-just : (first : Fault) (chains : List (List ℕ)) (start : Start) (out : List ℕ) → JustOne {R = code.Answer × List ℕ} (λ r. PortionOf first chains start out (r .1) (r .0))
+portion-just first chains start out =
+    let a = told (answerFor (refusalOf first chains start out) (length (portionOf chains start out)) (endedOf chains start out)) in
     record {
-      some = ((a .0, cellsFor (portionFault file q start out) (portionFor file q start out) out), record { answers = a .1; cells = refl });
+      some = ((a .0, cellsFor (refusalOf first chains start out) (portionOf chains start out) out), record { answers = a .1; cells = refl });
       only = λ one other p r. let e = portion-one p r in same-two (e .0) (e .1);
     }
 
 held-just : (file : List ℕ) (held : Held) (out : List ℕ) → JustOne {R = code.Answer × Held × List ℕ} (λ r. MovedOn file held (r .1) out (r .2) (r .0))
 held-just file held out =
-    let p = portion-just file (held .question) (startOf held) out .some in
+    let p = portion-just (askedFault file (held .question)) (listingFor file (held .question)) (startOf held) out .some in
     let h = lent (portionFault file (held .question) (startOf held) out) (heldAfter (portionFor file (held .question) (startOf held) out) held) held in
     record {
       some = ((p .0 .0, h, p .0 .1), record { portioned = p .1; keeps = refl });
@@ -88,7 +92,8 @@ one-result =
       check = λ file. record { some = verdict-told (checked file); only = λ one other. check-one file };
       row = row-just;
       fewest = λ file q person. record { some = hops-told (distance.answered file q person); only = λ one other. fewest-one file q person };
-      portion = portion-just;
+      portion = λ file q. portion-just (askedFault file q) (listingFor file q);
+      rings = λ file q. portion-just (ringsAskedFault file q) (ringsFor file q);
       held = held-just;
       join = join-just;
     }

@@ -7,11 +7,13 @@ use native.Mathlib.Omega.{arith}
 use lib.ListN.{length}
 use borrow.Author.Tests.{le-leb}
 use Rattle.format.specs.Format.{personCount}
-use Rattle.refusals.specs.Faults.{sound}
+use Rattle.refusals.specs.Faults.{Fault, sound}
 use Rattle.ways.specs.Graph.{_∈_}
 use Rattle.ways.specs.Chain.{Linked, Chain}
 use Rattle.ways.proofs.Listed.{exact}
-use Rattle.ways.proofs.Ordered.{once-each, determined}
+use Rattle.ways.specs.Order.{Before}
+use Rattle.ways.proofs.Rising.{one-list}
+use Rattle.ways.proofs.Ordered.{before-asym, rising-once}
 use Rattle.ways.proofs.ByHops.{byHops-iff, byHops-ordered, byHops-once}
 use Rattle.ways.proofs.Halves.{halves-exact, halves-ordered}
 use Rattle.ways.specs.Sizes.{recordSize}
@@ -19,15 +21,31 @@ use Rattle.question.specs.declared.Question.{Question}
 use Rattle.question.specs.Asked.{askedFault}
 use Rattle.question.specs.Admission.{next}
 use Rattle.question.proofs.Leads.{next-led, led-next}
-use Rattle.portion.specs.Listing.{listingFor, Portioned}
-use Rattle.listing.specs.Portions.{fresh}
+use Rattle.portion.specs.Listing.{listingFor}
+use Rattle.listing.specs.Portions.{Listing, fresh}
+use Rattle.listing.specs.Answers.{PortionOf}
 use Rattle.refusals.specs.declared.Answer.{Answer}
 use Rattle.question.proofs.Answerable.{asked-answerable, asked-differ}
-use Rattle.portion.proofs.Instance.{rows, fresh-chains, chains-listing}
-use Rattle.listing.proofs.Known.{passes}
+use Rattle.portion.proofs.Instance.{rows, chains-listing}
+use Rattle.listing.proofs.Known.{passes, fresh-all}
 use Rattle.join.specs.Lists.{halvesFor, joinFault}
 use Rattle.demands.specs.Paths.{Reached, SimplePath, HalfPath}
-use Rattle.demands.specs.Demands.{Lists, Fitting, JoinRoute, DemandTwo}
+use Rattle.demands.specs.Demands.{Lists, HoldsJust, Fitting, JoinRoute, DemandTwo}
+
+-- a listing of just those that `Is` says, wherever nothing is found before it
+pub holds-just : {Is : List ℕ → Type 0} {first : Fault} {chains : List (List ℕ)} → first ≡ sound → Listing chains → ((c : List ℕ) → c ∈ chains ↔ Is c) → HoldsJust Is first chains
+holds-just {Is} {first} {chains} asked is just =
+    record {
+      holdsEvery = λ c h. just c .1 h;
+      onceInOrder = (rising-once chains (is .rises), is .rises, λ c m. just c .0 m);
+      noOther = λ L r same. one-list Before (λ a b. before-asym) Is L chains r (is .rises) same just;
+      portion = portion-lists;
+    }
+  where
+    portion-lists : {out out′ : List ℕ} {answer : Answer} → recordSize ≤ length out → PortionOf first chains fresh out out′ answer → Lists chains out out′ answer
+    portion-lists {out} h p =
+        let passing = passes chains asked fresh out refl h in
+        record { says = p .answers ∙ rw (passing, fresh-all is); cells = p .cells ∙ rw (passing, fresh-all is) }
 
 module _ (file : List ℕ) (q : Question) where
   pub reached-linked : (c : List ℕ) → Reached file q c → Linked (next file q) c
@@ -68,13 +86,8 @@ module _ (file : List ℕ) (q : Question) where
     differ : q .from ≢ q .to
     differ = asked-differ file q asked
 
-    is-chain : (c : List ℕ) → c ∈ listingFor file q ↔ Chain (next file q) (q .from) (q .to) (q .hops) c
-    is-chain = exact (next file q) (q .from) (q .to) (q .hops) differ
-
-    portion-lists : {out out′ : List ℕ} {answer : Answer} → recordSize ≤ length out → Portioned file q fresh out out′ answer → Lists (listingFor file q) out out′ answer
-    portion-lists {out} h p =
-        let passing = passes (listingFor file q) asked fresh out refl h in
-        record { says = p .answers ∙ rw (passing, fresh-chains file q); cells = p .cells ∙ rw (passing, fresh-chains file q) }
+    is-path : (c : List ℕ) → c ∈ listingFor file q ↔ SimplePath file q c
+    is-path c = let both = exact (next file q) (q .from) (q .to) (q .hops) differ c in (λ m. chain-path c (both .0 m), λ h. both .1 (path-chain c h))
 
     joins-on : {working out : List ℕ} → Fitting file q working out → joinFault file q working out ≡ sound
     joins-on {working} {out} fit = rw (asked, le-leb recordSize (length out) (fit .room)) (fit .shelf)
@@ -107,11 +120,4 @@ module _ (file : List ℕ) (q : Question) where
         }
 
     pub demand-two : DemandTwo file q
-    demand-two =
-        record {
-          holdsEvery = λ c s. is-chain c .1 (path-chain c s);
-          onceInOrder = (once-each (next file q) (rows file q asked) (q .from) (q .to) (q .hops), chains-listing file q asked .rises, λ c m. chain-path c (is-chain c .0 m));
-          joinRoute = join-route;
-          noOther = λ L r same. determined (next file q) (rows file q asked) (q .from) (q .to) (q .hops) differ L r (λ c. (λ m. path-chain c (same c .0 m), λ h. same c .1 (chain-path c h)));
-          portion = portion-lists;
-        }
+    demand-two = record { listing = holds-just asked (chains-listing file q asked) is-path; joinRoute = join-route }

@@ -9,6 +9,7 @@ use Rattle.distance.specs.Answers.{answered}
 use Rattle.demands.specs.Paths.{Reached}
 use Rattle.demands.specs.Undated.{AnswersAsBefore, DatedHops, UndatedAsSaid}
 use Rattle.demands.proofs.Paths.{demand-two}
+use Rattle.demands.proofs.Rings.{rings-as-said}
 
 answers-before : (file : List ℕ) (q : Question) → q .undated ≡ 1 → AnswersAsBefore file q
 unfolding answered
@@ -33,5 +34,6 @@ undated-as-said =
       admits = λ file q wants. (as-before file q wants, answers-before file q wants);
       leavesOut = admitted-dated;
       keepsDated = dated-as-before;
-      dated = λ file q asked none c m. dated-hops file q none c (demand-two file q asked .onceInOrder .2 c m .reached);
+      dated = λ file q asked none c m. dated-hops file q none c (demand-two file q asked .listing .onceInOrder .2 c m .reached);
+      datedRings = λ file q asked none c m. dated-hops file q none c (rings-as-said file q asked .everyRing .onceInOrder .2 c m .reached);
     }

@@ -1,5 +1,5 @@
 -- The demands at the C door: what the one number tells that each exported function answers. Definitions only.
--- The promises of `kin_portion` and `kin_join` (outside, specs/) hold the promise of the operation behind them, of the same cells, and so does that of
+-- The promises of `kin_portion`, `kin_rings` and `kin_join` (outside, specs/) hold the promise of the operation behind them, of the same cells, and so does that of
 -- `kin_held`, by `kinHeldMoves`: so demands 2 and 3, which speak of such calls, hold of theirs, and count and ended are read off the number.
 use mathlib.Core.Path.{_≡_}
 use mathlib.Core.Logic.{_≢_, _↔_}
@@ -13,13 +13,14 @@ use Rattle.checking.specs.Checked.{fileFault, fileNumbers}
 use Rattle.question.specs.declared.Question.{Question}
 use Rattle.question.specs.Asked.{personFault, askedNumbers}
 use Rattle.portion.specs.Listing.{portionFault, portionNumbers, portionFor, endedFor}
+use Rattle.rings.specs.Rings.{ringsFault, ringsNumbers, ringsPortion, ringsEnded}
 use Rattle.listing.specs.Portions.{Start}
 use Rattle.refusals.specs.Answers.{answerSaid}
 use Rattle.refusals.specs.declared.Answer as code
 use Rattle.ways.specs.Graph.{_∈_}
 use Rattle.held.specs.Holding.{startOf, MovedOn}
 use Rattle.join.specs.Lists.{chainsFor, joinFault, joinNumbers, firstOnes, allFit}
-use Rattle.outside.specs.Encoded.{listedNumber, CheckNumber, RowNumber, FewestNumber, PortionNumber, JoinNumber}
+use Rattle.outside.specs.Encoded.{listedNumber, CheckNumber, RowNumber, FewestNumber, PortionNumber, RingsNumber, JoinNumber}
 use Rattle.outside.specs.HeldCells.{storedSize, heldWhole, heldOf, HeldNumber, asToday}
 use Rattle.outside.specs.TakenApart.{refusalIn, placeIn, countIn, endedIn, personsIn, linksIn, feedsIn}
 use Rattle.demands.specs.Paths.{FewestFrom}
@@ -55,8 +56,10 @@ pub record AtTheDoor : Type 0 where
   pub kinRow : (file : List ℕ) (person : ℕ) {answer : ℕ} → RowNumber file person answer → answer < 2 ^ 63
   pub kinFewest : (file : List ℕ) (q : Question) (person : ℕ) {answer : ℕ} → FewestNumber file q person answer
       → Tells (firstOf (fileFault file) (personFault (personCount file) q person)) askedNumbers answer NothingLent (FewestFrom file q person answer)
-  pub kinPortion : {file : List ℕ} {q : Question} {start : Start} {out out′ : List ℕ} {answer : ℕ} → PortionNumber file q start out out′ answer
+  pub kinPortion : (file : List ℕ) (q : Question) {start : Start} {out out′ : List ℕ} {answer : ℕ} → PortionNumber file q start out out′ answer
       → Tells (portionFault file q start out) portionNumbers answer (out′ ≡ out) (Listed answer (length (portionFor file q start out)) (endedFor file q start out))
+  pub kinRings : (file : List ℕ) (q : Question) {start : Start} {out out′ : List ℕ} {answer : ℕ} → RingsNumber file q start out out′ answer
+      → Tells (ringsFault file q start out) ringsNumbers answer (out′ ≡ out) (Listed answer (length (ringsPortion file q start out)) (ringsEnded file q start out))
   pub kinHeld : {file cells cells′ out out′ : List ℕ} {answer : ℕ} → HeldNumber file cells cells′ out out′ answer
       → Tells (heldFault file cells out) (0 ∷ portionNumbers) answer ((cells′ ≡ cells) × (out′ ≡ out))
       (Listed answer (length (portionFor file (heldOf cells .question) (startOf (heldOf cells)) out)) (endedFor file (heldOf cells .question) (startOf (heldOf cells)) out))

@@ -13,6 +13,7 @@ use Rattle.distance.specs.Answers.{FewestHops}
 use Rattle.distance.specs.declared.HopsAnswer as distance
 use Rattle.listing.specs.Portions.{Start}
 use Rattle.portion.specs.Listing.{Portioned}
+use Rattle.rings.specs.Rings.{RingsPortioned}
 use Rattle.refusals.specs.declared.Answer.{Answer}
 use Rattle.held.specs.declared.Held.{Held}
 use Rattle.held.specs.Holding.{MovedOn}
@@ -37,6 +38,8 @@ pub record OneResult : Type 0 where
   pub fewest : (file : List ℕ) (q : Question) (person : ℕ) → JustOne {R = distance.HopsAnswer} (FewestHops file q person)
   -- portion: the answer and the output
   pub portion : (file : List ℕ) (q : Question) (start : Start) (out : List ℕ) → JustOne {R = Answer × List ℕ} (λ r. Portioned file q start out (r .1) (r .0))
+  -- rings: the answer and the output
+  pub rings : (file : List ℕ) (q : Question) (start : Start) (out : List ℕ) → JustOne {R = Answer × List ℕ} (λ r. RingsPortioned file q start out (r .1) (r .0))
   -- held listing: the answer, the held listing and the output
   pub held : (file : List ℕ) (held : Held) (out : List ℕ) → JustOne {R = Answer × Held × List ℕ} (λ r. MovedOn file held (r .1) out (r .2) (r .0))
   -- join: the answer, the working cells and the output

@@ -5,6 +5,7 @@ use Prim.Native.Nat.{ℕ, _+_, _/_, _≤_}
 use lib.ListN.{length}
 use Rattle.ways.specs.Graph.{_∈_}
 use Rattle.ways.specs.Chain.{First, Last, Distinct, hops}
+use Rattle.ways.specs.Ring.{others}
 use Rattle.question.specs.declared.Question.{Question}
 use Rattle.question.specs.Admission.{AdmittedLink}
 
@@ -21,6 +22,16 @@ pub record SimplePath (file : List ℕ) (q : Question) (c : List ℕ) : Type 0 w
   pub different : Distinct c
   pub first : First (q .from) c
   pub last : Last (q .to) c
+  pub reached : Reached file q c
+
+-- "2 to k admitted hops, starting and ending at that person, all others different from it and each other": that person is From, who is To too
+pub record RingPath (file : List ℕ) (q : Question) (c : List ℕ) : Type 0 where
+  pub some : 2 ≤ hops c
+  pub few : hops c ≤ q .hops
+  pub first : First (q .from) c
+  pub last : Last (q .from) c
+  pub apart : ¬ (q .from ∈ others c)
+  pub different : Distinct (others c)
   pub reached : Reached file q c
 
 -- "half chains are the simple admitted sequences of 0 to k/2 hops (rounded down) ending at To and not visiting From"

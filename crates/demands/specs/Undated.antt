@@ -16,7 +16,7 @@ use Rattle.ways.specs.Halves.{halves}
 use Rattle.ways.specs.Fewest as ways
 use Rattle.ways.specs.Sizes.{recordSize}
 use Rattle.question.specs.declared.Question.{Question}
-use Rattle.question.specs.Asked.{askedFault}
+use Rattle.question.specs.Asked.{askedFault, ringsAskedFault}
 use Rattle.question.specs.Admission.{admitted, AdmittedLink}
 use Rattle.question.specs.Before.{admittedBefore, nextBefore, askedBefore, askedOfBefore, AsBefore}
 use Rattle.distance.specs.Answers.{hopsSaid, unlessRefused, FewestHops}
@@ -24,6 +24,7 @@ use Rattle.distance.specs.declared.HopsAnswer.{HopsAnswer}
 use Rattle.listing.specs.Portions.{Start, refusalOf, portionOf}
 use Rattle.listing.specs.Answers.{PortionOf}
 use Rattle.portion.specs.Listing.{listingFor, listingBefore, Portioned}
+use Rattle.rings.specs.Rings.{ringsFor}
 use Rattle.held.specs.declared.Held.{Held}
 use Rattle.held.specs.Holding.{startOf, heldAfter, MovedOn}
 use Rattle.join.specs.Lists.{halvesFault}
@@ -62,5 +63,6 @@ pub record UndatedAsSaid : Type 0 where
   -- "0 to leave them out": no undated link is admitted, and every other one as before
   pub leavesOut : (file : List ℕ) (q : Question) → q .undated ≡ 0 → (link : ℕ) → admitted file q link ≡ true → day file link ≢ 0
   pub keepsDated : (file : List ℕ) (q : Question) (link : ℕ) → day file link ≢ 0 → admitted file q link ≡ admittedBefore file q link
-  -- so no chain of the listing rests on an undated link
+  -- so no chain of the listing rests on an undated link, and no ring
   pub dated : (file : List ℕ) (q : Question) → askedFault file q ≡ sound → q .undated ≡ 0 → (c : List ℕ) → c ∈ listingFor file q → DatedHops file q c
+  pub datedRings : (file : List ℕ) (q : Question) → ringsAskedFault file q ≡ sound → q .undated ≡ 0 → (c : List ℕ) → c ∈ ringsFor file q → DatedHops file q c
