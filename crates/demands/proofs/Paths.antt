@@ -25,7 +25,7 @@ use Rattle.portion.specs.Listing.{listingFor}
 use Rattle.listing.specs.Portions.{Listing, fresh}
 use Rattle.listing.specs.Answers.{PortionOf}
 use Rattle.refusals.specs.declared.Answer.{Answer}
-use Rattle.question.proofs.Answerable.{asked-answerable, asked-differ}
+use Rattle.question.proofs.Answerable.{asked-differ}
 use Rattle.portion.proofs.Instance.{rows, chains-listing}
 use Rattle.listing.proofs.Known.{passes, fresh-all}
 use Rattle.join.specs.Lists.{halvesFor, joinFault}

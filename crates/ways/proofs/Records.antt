@@ -1,6 +1,6 @@
 -- Records: a record tells its chain, has its size, and is known by its shape; records laid end to end tell their list.
 use mathlib.Core.Path.{_≡_, refl, sym, ap, ap₂, subst, _∙_}
-use mathlib.Core.Logic.{_≢_, _↔_}
+use mathlib.Core.Logic.{_↔_}
 use mathlib.Core.Bool.{Bool, true, false, false≢true, cond}
 use mathlib.Core.List.{List, [], _∷_, _++_, append-assoc, cons≢nil, List·Memᴰ·head, List·Memᴰ·tail, Memᴰ·of-map, Memᴰ·cast}
 use Prim.Native.Nat.{ℕ, suc, _+_, _-_, _*_, _≤_, _<_}
@@ -11,11 +11,11 @@ use lib.Seq.{take-at, drop-at, drop-append-seam, length-take-le}
 use lib.Dec.{eqb}
 use borrow.Author.Tests.{eqb-true, eq-eqb}
 use Rattle.ways.specs.Graph.{Graph, _∈_}
-use Rattle.ways.specs.Chain.{hops, Chain}
+use Rattle.ways.specs.Chain.{hops}
 use Rattle.ways.specs.Listing.{ways, listing}
 use Rattle.ways.specs.Records.{recordOf, chainOf, Fits, Shaped, cellsOf, roomOf, written, sameCells, isRecordIn}
 use Rattle.ways.proofs.Way.{Way, ends, goes, way-from}
-use Rattle.ways.proofs.Listed.{Passing, listed, exact}
+use Rattle.ways.proofs.Listed.{Passing, listed}
 
 -- ways and chains fit
 pub length-hops : (c : List ℕ) → 1 ≤ length c → suc (hops c) ≡ length c
@@ -177,11 +177,4 @@ pub isRecordIn-listed : (g : Graph) (s t k size : ℕ) → k + 2 ≤ size → (c
 isRecordIn-listed g s t k size h cells =
     let r = isRecordIn-iff size (listing g s t k) cells (listing-fits g s t k size h) in
     let e = listed g s t k (chainOf cells) in
-    ((λ i. let q = r .0 i in (q .0, e .0 (q .1))), (λ q. r .1 (q .0, e .1 (q .1))))
-
--- so, where From is not To, the record of a chain
-pub isRecordIn-chain : (g : Graph) (s t k size : ℕ) → s ≢ t → k + 2 ≤ size → (cells : List ℕ) → (isRecordIn size (listing g s t k) cells ≡ true) ↔ (Shaped size cells × Chain g s t k (chainOf cells))
-isRecordIn-chain g s t k size ne h cells =
-    let r = isRecordIn-iff size (listing g s t k) cells (listing-fits g s t k size h) in
-    let e = exact g s t k ne (chainOf cells) in
     ((λ i. let q = r .0 i in (q .0, e .0 (q .1))), (λ q. r .1 (q .0, e .1 (q .1))))

@@ -1,6 +1,6 @@
 -- `rings` holds every ring and nothing else, in dictionary order, and no other list does; it is what the search lists where From is To.
 use mathlib.Core.Path.{_≡_, refl, sym, subst}
-use mathlib.Core.Logic.{_≢_, _↔_}
+use mathlib.Core.Logic.{_↔_}
 use mathlib.Core.List.{List, [], _∷_, _++_, dropLast, List·Memᴰ·head, List·Memᴰ·not-nil, List·Memᴰ·eq-of-singleton, Memᴰ·cast}
 use Prim.Native.Nat.{ℕ, _+_, _≤_, _<_}
 use native.Mathlib.Omega.{arith}
@@ -9,16 +9,14 @@ use Rattle.ways.specs.Graph.{Graph, _∈_, keep}
 use Rattle.ways.specs.Chain.{Distinct, hops}
 use Rattle.ways.specs.Order.{Before, Rising}
 use Rattle.ways.specs.Listing.{listing}
-use Rattle.ways.specs.Portions.{after}
 use Rattle.ways.specs.Records.{Fits}
 use Rattle.ways.specs.Ring.{others, Ring, twoHops, rings}
-use Rattle.ways.proofs.Members.{keep-from, keep-in, keep-all, nobody, out}
+use Rattle.ways.proofs.Members.{keep-from, keep-in, keep-all, nobody}
 use Rattle.ways.proofs.Cut.{last-behind, distinct-left, distinct-apart, distinct-append}
 use Rattle.ways.proofs.Listed.{last-cons, Passing, listed, passing-no-beginning}
 use Rattle.ways.proofs.Rising.{one-list, rising-keep}
 use Rattle.ways.proofs.Ordered.{before-asym, ordered, rising-once}
-use Rattle.ways.proofs.After.{after-fresh}
-use Rattle.ways.proofs.Records.{listing-some, listing-fits}
+use Rattle.ways.proofs.Records.{listing-fits}
 
 module _ (g : Graph) (p k : ℕ) where
   -- a ring comes back to p, and what does so after more than one hop is a ring
@@ -59,10 +57,6 @@ module _ (g : Graph) (p k : ℕ) where
   pub rings-fits : (size : ℕ) → k + 2 ≤ size → (c : List ℕ) → c ∈ rings g p k → Fits size c
   rings-fits size h c m = listing-fits g p p k size h c (rings-within m)
 
-  -- a fresh start comes before every ring
-  pub rings-fresh : after [] (rings g p k) ≡ rings g p k
-  rings-fresh = after-fresh (rings g p k) (λ c m. listing-some g p p k c (rings-within m))
-
   -- no ring is a beginning of another
   pub ring-no-beginning : (c d : List ℕ) → Ring g p k c → Ring g p k (c ++ d) → d ≡ []
   ring-no-beginning c d h i = passing-no-beginning g p p k c d (ring-passing c h) (ring-passing (c ++ d) i)
@@ -90,9 +84,6 @@ module _ (g : Graph) (p k : ℕ) where
     pub rings-determined : (L : List (List ℕ)) → Rising Before L → ((c : List ℕ) → c ∈ L ↔ Ring g p k c) → L ≡ rings g p k
     rings-determined L r h = one-list Before (λ a b. before-asym) (Ring g p k) L (rings g p k) r rings-ordered h rings-exact
 
--- with one hop there is no ring, and over a and back is one of two hops
+-- with one hop there is no ring
 pub rings-one-hop : (g : Graph) (p : ℕ) → rings g p 1 ≡ []
 rings-one-hop g p = nobody (rings g p 1) (λ c m. let h = rings-exact g p 1 c .0 m in omega (arith, h .some, h .few))
-
-pub ring-of-two : (g : Graph) (p a k : ℕ) → 2 ≤ k → a ≢ p → a ∈ g p → p ∈ g a → Ring g p k (p ∷ a ∷ p ∷ [])
-ring-of-two g p a k two n there back = record { first = refl; last = refl; linked = (there, (back, tt)); apart = out (λ e. n (sym e)) List·Memᴰ·not-nil; once = (List·Memᴰ·not-nil, tt); some = omega arith; few = omega arith }

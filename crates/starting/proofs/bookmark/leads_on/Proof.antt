@@ -1,6 +1,6 @@
 -- `leads_on` meets its contract: the first link, whether From comes again, and the run behind it.
 use borrow.Author.Needs.{needs}
-use mathlib.Core.Path.{sym, _∙_}
+use mathlib.Core.Path.{sym}
 use mathlib.Core.Logic.{⊎-elim}
 use borrow.Author.Tests.{eq-eqb, ne-eqb, not-true, not-false}
 use Rattle.compact.specs.Compact.{graphOf}
