@@ -1,10 +1,13 @@
 //! The static library with memory lent to it. Every call lends a copy and fails if memory that has to stay as it came
 //! did not.
 
-use crate::calls::{self, nothing};
+use crate::calls::{self, nothing, Slice};
 use crate::checker::{Refusal, Verdict};
 use crate::lent::{Lease, Lent, Memory, VastTail};
 use crate::lister::{Listed, Question};
+
+/// A call that hands over a portion of a listing: of chains, or of rings.
+type Listing = fn(Slice<u8>, &Question, u32, Slice<u32>, Slice<u32>) -> Result<Listed, Refusal>;
 
 /// The library, lending memory of one sort.
 #[derive(Clone, Copy, Debug)]
@@ -68,10 +71,34 @@ impl Library {
         bookmark: &[u32],
         out: &mut [u32],
     ) -> Result<Listed, Refusal> {
+        self.hands_over(calls::portion, file, question, started, bookmark, out)
+    }
+
+    /// Asks for a portion of the rings, as for one of the chains.
+    pub fn rings(
+        self,
+        file: &[u8],
+        question: &Question,
+        started: u32,
+        bookmark: &[u32],
+        out: &mut [u32],
+    ) -> Result<Listed, Refusal> {
+        self.hands_over(calls::rings, file, question, started, bookmark, out)
+    }
+
+    fn hands_over(
+        self,
+        listing: Listing,
+        file: &[u8],
+        question: &Question,
+        started: u32,
+        bookmark: &[u32],
+        out: &mut [u32],
+    ) -> Result<Listed, Refusal> {
         let mut lent_file = self.file(file);
         let mut lent_bookmark = Lent::in_memory(self.memory, bookmark, Lease::ToRead);
         let mut lent_out = self.cells(out);
-        let told = calls::portion(
+        let told = listing(
             lent_file.slice(),
             question,
             started,
@@ -197,10 +224,7 @@ pub fn portion(
 
 /// A portion with no output cells and no bookmark cells, both at the null pointer.
 pub fn portion_null(file: &[u8], question: &Question, started: u32) -> Result<Listed, Refusal> {
-    let mut lent = Lent::new(file);
-    let told = calls::portion(lent.slice(), question, started, nothing(), nothing());
-    lent.assert_as_it_came();
-    told
+    hands_over_null(calls::portion, file, question, started)
 }
 
 /// A fresh portion without a bookmark's cells at all.
@@ -209,10 +233,105 @@ pub fn portion_null_bookmark(
     question: &Question,
     out: &mut [u32],
 ) -> Result<Listed, Refusal> {
+    hands_over_null_bookmark(calls::portion, file, question, 0, out)
+}
+
+fn hands_over_null(
+    listing: Listing,
+    file: &[u8],
+    question: &Question,
+    started: u32,
+) -> Result<Listed, Refusal> {
+    let mut lent = Lent::new(file);
+    let told = listing(lent.slice(), question, started, nothing(), nothing());
+    lent.assert_as_it_came();
+    told
+}
+
+fn hands_over_null_bookmark(
+    listing: Listing,
+    file: &[u8],
+    question: &Question,
+    started: u32,
+    out: &mut [u32],
+) -> Result<Listed, Refusal> {
     let mut lent_file = Lent::new(file);
     let mut lent_out = Lent::new(out);
-    let told = calls::portion(lent_file.slice(), question, 0, nothing(), lent_out.slice());
+    let told = listing(
+        lent_file.slice(),
+        question,
+        started,
+        nothing(),
+        lent_out.slice(),
+    );
     lent_file.assert_as_it_came();
+    take_back(&lent_out, out);
+    told
+}
+
+// The rings.
+
+pub fn rings(
+    file: &[u8],
+    question: &Question,
+    started: u32,
+    bookmark: &[u32],
+    out: &mut [u32],
+) -> Result<Listed, Refusal> {
+    USUAL.rings(file, question, started, bookmark, out)
+}
+
+/// Rings with no output cells and no bookmark cells, both at the null pointer.
+pub fn rings_null(file: &[u8], question: &Question, started: u32) -> Result<Listed, Refusal> {
+    hands_over_null(calls::rings, file, question, started)
+}
+
+/// Rings without a bookmark's cells at all.
+pub fn rings_null_bookmark(
+    file: &[u8],
+    question: &Question,
+    started: u32,
+    out: &mut [u32],
+) -> Result<Listed, Refusal> {
+    hands_over_null_bookmark(calls::rings, file, question, started, out)
+}
+
+/// Rings of no bytes at the null pointer.
+pub fn rings_null_file(question: &Question, out: &mut [u32]) -> Result<Listed, Refusal> {
+    let mut lent_out = Lent::new(out);
+    let told = calls::rings(nothing(), question, 0, nothing(), lent_out.slice());
+    take_back(&lent_out, out);
+    told
+}
+
+/// Rings after a bookmark of very many cells.
+pub fn rings_vast_bookmark(
+    file: &[u8],
+    question: &Question,
+    bookmark: &VastTail,
+    out: &mut [u32],
+) -> Result<Listed, Refusal> {
+    let (mut lent_file, mut lent_out) = (Lent::new(file), Lent::new(out));
+    let told = calls::rings(
+        lent_file.slice(),
+        question,
+        1,
+        bookmark.slice(),
+        lent_out.slice(),
+    );
+    lent_file.assert_as_it_came();
+    take_back(&lent_out, out);
+    told
+}
+
+/// Rings of a file of very many bytes.
+pub fn rings_vast_file(
+    file: &VastTail,
+    question: &Question,
+    out: &mut [u32],
+) -> Result<Listed, Refusal> {
+    let mut lent_out = Lent::new(out);
+    let told = calls::rings(file.slice(), question, 0, nothing(), lent_out.slice());
     take_back(&lent_out, out);
     told
 }
