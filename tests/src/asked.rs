@@ -8,7 +8,7 @@ use crate::lister::{
     self, half_chains, held_of, listed, listing, listing_by_hops, moved_on, question_held, record,
     stored_of, Chain, Held, Listed, Question, Stored,
 };
-use crate::outside::{Library, USUAL};
+use crate::outside::{Bookmarked, Library, USUAL};
 use crate::questions::random_question;
 use crate::random::Random;
 use crate::ring_lister::{self, Ring};
@@ -197,6 +197,26 @@ impl Asked {
             self.file
         );
         (told, out)
+    }
+
+    /// Asks for one ring after each of these bookmarks; gives how many were rings. Answers and cells are the lister's.
+    pub fn one_ring_after_each(&self, bookmarks: &[[u32; 10]]) -> usize {
+        let mut lent = Bookmarked::new(&self.file);
+        let came: [u32; 10] = untouched(10).try_into().expect("ten cells");
+        let mut rings = 0;
+        for bookmark in bookmarks {
+            let (mut out, mut right_out) = (came, came);
+            let told = lent.ring_after(&self.question, bookmark, &mut out);
+            let right = lister::portion(self.ring_listing(), 1, bookmark, &mut right_out);
+            assert!(
+                told == right && out == right_out,
+                "rings, {:?}, bookmark {bookmark:?} of {:?}:\ntold {told:?} {out:?}\nright {right:?} {right_out:?}",
+                self.question,
+                self.file
+            );
+            rings += usize::from(told.is_ok());
+        }
+        rings
     }
 
     /// Asks for rings with the question as it is, and with From at both ends.

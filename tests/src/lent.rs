@@ -133,6 +133,16 @@ impl<T: Element> Lent<T> {
         }
     }
 
+    /// Fills a part between zones anew, as if it were lent again.
+    pub fn fill(&mut self, contents: &[T]) {
+        let part = self.start..self.start + self.length;
+        self.before_call[part.clone()].copy_from_slice(contents);
+        match &mut self.block {
+            Block::Heap(all) => all[part].copy_from_slice(contents),
+            Block::Paged(_) => panic!("pages are lent once"),
+        }
+    }
+
     /// The part as the library takes it.
     pub fn slice(&mut self) -> Slice<T> {
         // No elements may lie at the very end of what there is.

@@ -336,6 +336,46 @@ pub fn rings_vast_file(
     told
 }
 
+/// A file lent once, with ten cells for a bookmark and ten for a ring that are filled anew before each call: for runs in
+/// which lending takes longer than asking.
+pub struct Bookmarked {
+    file: Lent<u8>,
+    bookmark: Lent<u32>,
+    out: Lent<u32>,
+}
+
+impl Bookmarked {
+    pub fn new(file: &[u8]) -> Bookmarked {
+        Bookmarked {
+            file: Lent::new(file),
+            bookmark: Lent::new(&[0; 10]),
+            out: Lent::new(&[0; 10]),
+        }
+    }
+
+    /// Asks for one ring after the bookmark; `out` comes back as the library left it, all else has to stay as it came.
+    pub fn ring_after(
+        &mut self,
+        question: &Question,
+        bookmark: &[u32; 10],
+        out: &mut [u32; 10],
+    ) -> Result<Listed, Refusal> {
+        self.bookmark.fill(bookmark);
+        self.out.fill(out);
+        let told = calls::rings(
+            self.file.slice(),
+            question,
+            1,
+            self.bookmark.slice(),
+            self.out.slice(),
+        );
+        self.file.assert_as_it_came();
+        self.bookmark.assert_as_it_came();
+        take_back(&self.out, out);
+        told
+    }
+}
+
 // The held listing.
 
 pub fn held(held: &mut [u32], file: &[u8], out: &mut [u32]) -> Result<Listed, Refusal> {
