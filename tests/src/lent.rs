@@ -189,6 +189,19 @@ impl VastTail {
         VastTail { pages, length }
     }
 
+    /// The same, and the first bytes may be written too: all others only read.
+    pub fn opened(bytes: &[u8], zeros: usize) -> VastTail {
+        let vast = VastTail::new(bytes, zeros);
+        vast.pages.open(bytes.len());
+        vast
+    }
+
+    /// The first so many elements as they are now.
+    pub fn first<T: Element>(&self, count: usize) -> Vec<T> {
+        assert!(count <= self.length / size_of::<T>());
+        unsafe { std::slice::from_raw_parts(self.pages.pointer() as *const T, count).to_vec() }
+    }
+
     /// The bytes and the zeros, as elements of any size: pages suit cells too.
     pub fn slice<T>(&self) -> Slice<T> {
         let length = self.length / size_of::<T>();

@@ -324,6 +324,18 @@ pub fn rings_vast_bookmark(
     told
 }
 
+/// Rings into an output of very many cells.
+pub fn rings_vast_output(
+    file: &[u8],
+    question: &Question,
+    out: &VastTail,
+) -> Result<Listed, Refusal> {
+    let mut lent_file = Lent::new(file);
+    let told = calls::rings(lent_file.slice(), question, 0, nothing(), out.slice());
+    lent_file.assert_as_it_came();
+    told
+}
+
 /// Rings of a file of very many bytes.
 pub fn rings_vast_file(
     file: &VastTail,

@@ -9,7 +9,7 @@
 use independent::asked::{cells_of, Asked};
 use independent::checker::refused;
 use independent::files::{self, random_graph, LinkFile};
-use independent::lent::untouched;
+use independent::lent::{untouched, VastTail};
 use independent::lister::{listed, record, Listed, Question};
 use independent::outside;
 use independent::questions::{random_question, Q, R, R_RINGS};
@@ -442,6 +442,20 @@ fn outputs_of_every_length() {
     }
     let (answer, _) = asked.ring_portion(0, &[], 100_000);
     assert_eq!(answer, listed(4, true));
+}
+
+/// Nine cells more than 32 bits count are room for any number of rings.
+#[test]
+fn an_output_of_more_than_32_bits_of_cells() {
+    let file = files::six_persons().bytes();
+    let came: Vec<u8> = untouched(109)
+        .iter()
+        .flat_map(|cell| cell.to_le_bytes())
+        .collect();
+    let vast = VastTail::opened(&came, (4 << 32) - 4 * 100);
+    let told = outside::rings_vast_output(&file, &R, &vast);
+    assert_eq!(told, listed(4, true));
+    assert_eq!(vast.first::<u32>(109), cells_of(&R_RINGS, 109));
 }
 
 #[test]
