@@ -247,6 +247,10 @@ fn the_rule_of_a_ring() {
     ];
     assert!(wrong.iter().all(|sequence| !holds(sequence)));
     assert!(!is_ring(&shape, &Question { hops: 4, ..R }, R_RINGS[1]));
+    // There and back, twice: only the person stands in the middle, and nobody else twice.
+    let star = files::undated(3, &[(0, 2), (1, 2), (2, 0), (2, 1)]);
+    assert!(is_ring(&star, &R, &[2, 0, 2]));
+    assert!(!is_ring(&star, &R, &[2, 0, 2, 1, 2]));
 }
 
 #[test]

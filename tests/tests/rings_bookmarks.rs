@@ -192,6 +192,27 @@ fn sequences_that_are_nearly_rings() {
     }
 }
 
+/// In a star whose middle is person 2 every way there and back is a ring, and no two of them make one.
+#[test]
+fn rings_one_behind_the_other() {
+    let others = [0, 1, 3, 4];
+    let pairs: Vec<(u32, u32)> = others
+        .iter()
+        .flat_map(|&other| [(2, other), (other, 2)])
+        .collect();
+    let file = files::undated(5, &pairs).bytes();
+    let asked = Asked::new(file, Question { hops: 8, ..R });
+    assert_eq!(asked.rings().len(), 4);
+    for one in others {
+        assert!(asked.ring_portion(1, &record(&[2, one, 2]), 10).0.is_ok());
+        for other in others {
+            is_no_bookmark(&asked, &record(&[2, one, 2, other, 2]));
+            is_no_bookmark(&asked, &record(&[one, 2, other, 2, one]));
+        }
+    }
+    is_no_bookmark(&asked, &record(&[2, 0, 2, 1, 2, 3, 2, 4, 2]));
+}
+
 #[test]
 #[rustfmt::skip]
 fn cells_that_are_nearly_a_record() {

@@ -3,11 +3,12 @@
 //!
 //! Covers: all 2^12 graphs of four persons, each of the four, all hops 1 to 8. For each of these graphs and persons, with a
 //! seeded number of hops: every sequence of up to five persons that begins at the person, closed or not, as a bookmark; a
-//! part of those of six persons, going round, and some that begin at another. All graphs of two and three persons, with
-//! every bookmark of up to six persons and every number of hops. Graphs of five persons by seeded samples, of any density
-//! and sparse, and with all links or all but one. With undated links admitted and left out: all graphs of three persons
-//! whose links are missing, undated or dated, all ways in which the links of the full graph of four persons are undated or
-//! dated. Files of four and five persons with classes, meanings and windows by a seeded sample.
+//! part of those of six persons, and of those that begin at another. All graphs of two and three persons, with every
+//! number of hops and every bookmark of up to six persons. Graphs of five persons by seeded samples, of any density and
+//! sparse, and with all links or all but one. With undated links admitted and left out: all graphs of three persons whose
+//! links are missing, undated or dated, with every bookmark of up to five persons; all ways in which the links of the full
+//! graph of four persons are undated or dated. Files of four and five persons with classes, meanings and windows by a
+//! seeded sample.
 
 use independent::asked::Asked;
 use independent::files::{self, graph_of_number, links_of_graph, LinkFile};
@@ -199,25 +200,52 @@ fn bookmarks_in_every_graph_of_two_and_three_persons() {
 /// Undated links admitted, and left out.
 const BOTH: [u32; 2] = [1, 0];
 
-#[test]
-fn rings_in_every_graph_of_three_persons_with_links_undated_and_dated() {
+/// Calls with every graph of three persons whose links are missing, undated or dated.
+fn for_each_dated_graph_of_three(mut each: impl FnMut(&LinkFile)) {
     for graph in 0..1 << links_of_graph(3) {
         for dates in 0..1 << u32::count_ones(graph) {
-            let shape = graph_of_number(3, graph).dated(|link| 9 * (dates >> link & 1));
-            for person in 0..3 {
-                for undated in BOTH {
-                    let question = of(person, 8);
-                    every_number_of_hops(
-                        &shape,
-                        Question {
-                            undated,
-                            ..question
-                        },
-                    );
-                }
-            }
+            each(&graph_of_number(3, graph).dated(|link| 9 * (dates >> link & 1)));
         }
     }
+}
+
+#[test]
+fn rings_in_every_graph_of_three_persons_with_links_undated_and_dated() {
+    let mut graphs = 0;
+    for_each_dated_graph_of_three(|shape| {
+        graphs += 1;
+        for person in 0..3 {
+            for undated in BOTH {
+                every_number_of_hops(
+                    shape,
+                    Question {
+                        undated,
+                        ..of(person, 8)
+                    },
+                );
+            }
+        }
+    });
+    assert_eq!(graphs, 3_usize.pow(6));
+}
+
+/// A ring over an undated link is none where undated links are left out.
+#[test]
+fn bookmarks_in_every_graph_of_three_persons_with_links_undated_and_dated() {
+    let bookmarks = [0, 1, 2].map(|person| up_to(person, 3, 5));
+    for_each_dated_graph_of_three(|shape| {
+        for person in 0..3 {
+            for undated in BOTH {
+                let question = Question {
+                    undated,
+                    ..of(person, 3)
+                };
+                let asked = Asked::new(shape.bytes(), question);
+                let taken = asked.one_ring_after_each(&bookmarks[person as usize]);
+                assert_eq!(taken, asked.rings().len());
+            }
+        }
+    });
 }
 
 #[test]
