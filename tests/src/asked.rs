@@ -220,7 +220,7 @@ impl Asked {
     }
 
     /// Asks for rings with the question as it is, and with From at both ends.
-    pub fn rings_both_ways_asked(&self, started: u32, bookmark: &[u32], cells: usize) {
+    pub fn rings_as_asked_and_closed(&self, started: u32, bookmark: &[u32], cells: usize) {
         let _ = self.ring_portion(started, bookmark, cells);
         let _ = self.back_to_from().ring_portion(started, bookmark, cells);
     }

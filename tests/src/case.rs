@@ -101,7 +101,7 @@ fn ask_all(asked: &Asked, rooms: &[u8], bookmark: &[u32; 10]) {
     }
     let _ = asked.fewest(person);
     let _ = asked.portion(started, &bookmark[..usize::from(length)], cells);
-    asked.rings_both_ways_asked(started, &bookmark[..usize::from(length)], cells);
+    asked.rings_as_asked_and_closed(started, &bookmark[..usize::from(length)], cells);
     asked.moved_in_each_form(started, bookmark, cells);
     let _ = asked.join(working, cells);
 }

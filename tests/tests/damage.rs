@@ -54,7 +54,7 @@ fn ask_all(random: &mut Random, asked: &Asked, bookmark: &[u32; 10], n: u32) -> 
     let cells = random.one_of(&[9, 10, 25, 200]);
     let started = random.below(2) as u32;
     let _ = asked.portion(started, bookmark, cells);
-    asked.rings_both_ways_asked(started, bookmark, cells);
+    asked.rings_as_asked_and_closed(started, bookmark, cells);
     asked.moved_in_each_form(started, bookmark, cells);
     let working = random.one_of(&[0, 9, 10, 40, 90, 400]);
     let _ = asked.join(working, cells);

@@ -105,8 +105,8 @@ fn slices_of_no_elements_at_both_edges() {
             for started in [0, 1] {
                 let _ = asked.portion(started, &[], 0);
                 let _ = asked.portion(started, &[], 30);
-                asked.rings_both_ways_asked(started, &[], 0);
-                asked.rings_both_ways_asked(started, &[], 30);
+                asked.rings_as_asked_and_closed(started, &[], 0);
+                asked.rings_as_asked_and_closed(started, &[], 30);
                 asked.moved_in_each_form(started, &[1; 10], 0);
             }
             let _ = asked.join(0, 0);

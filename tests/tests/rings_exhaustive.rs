@@ -131,24 +131,23 @@ fn up_to(person: u32, n: u32, longest: u32) -> Vec<[u32; 10]> {
         .collect()
 }
 
-/// How many parts those of six persons are cut into, and those that begin at another: each graph gets one of them.
-const PARTS: usize = 16;
-
 fn bookmarks_of_four(person: u32) {
     let mut random = Random::of_test(&format!("bookmarks of {person} in every graph of four"));
     let shorter = up_to(person, 4, 5);
     let longer = beginning_at(person, 4, 6);
     let others = up_to((person + 1) % 4, 4, 5);
+    // Of both each graph gets a part.
+    let parts = rounds(4, 1);
     let mut rings = 0;
     for graph in 0..1 << links_of_graph(4) {
         let asked = Asked::new(
             graph_of_number(4, graph).bytes(),
             of(person, random.between(1, 8) as u32),
         );
-        let part = random.below(PARTS);
+        let part = random.below(parts);
         let mut bookmarks = shorter.clone();
-        bookmarks.extend(longer.iter().skip(part).step_by(PARTS));
-        bookmarks.extend(others.iter().skip(part).step_by(PARTS));
+        bookmarks.extend(longer.iter().skip(part).step_by(parts));
+        bookmarks.extend(others.iter().skip(part).step_by(parts));
         let taken = asked.one_ring_after_each(&bookmarks);
         assert_eq!(taken, asked.rings().len());
         rings += taken;
