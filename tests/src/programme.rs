@@ -23,14 +23,12 @@ impl Asked {
         self.moved_in_each_form(0, &[9; 10], cells);
         let _ = self.join(self.enough(), cells);
         self.fewest_of_everybody(n);
-        self.no_ring_between_two();
     }
 
     /// The whole programme of the rings of one person, for a question that has that person at both ends.
     pub fn everything_of_rings(&self) {
         self.rings_fresh_with_every_room();
         self.rings_resumed_at_every_ring();
-        self.no_chain_comes_back();
     }
 
     /// All rings at once, and all that are left after each, with cells to spare that are no room.
@@ -40,7 +38,6 @@ impl Asked {
         for ring in self.rings() {
             let _ = self.ring_portion(1, &record(ring), cells);
         }
-        self.no_chain_comes_back();
     }
 
     /// Rooms from 1 to one more than there are chains, with cells to spare that are no room.

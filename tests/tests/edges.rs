@@ -35,7 +35,9 @@ fn everything_about_small_files_at_both_edges() {
             for library in AT_THE_EDGES {
                 let asked = Asked::new(shape.bytes(), question).of(library);
                 asked.everything(n as u32);
-                asked.back_to_from().everything_of_rings();
+                let rings = asked.back_to_from();
+                rings.everything_of_rings();
+                rings.no_chain_comes_back();
                 if question.undated == 1 {
                     asked.to_the_end_with_every_room(asked.fresh_stored());
                 }

@@ -2,13 +2,13 @@
 //! every room, resumed at every ring, and every bookmark, against brute force.
 //!
 //! Covers: all 2^12 graphs of four persons, each of the four, all hops 1 to 8. For each of these graphs and persons, with a
-//! seeded number of hops: every sequence of up to five persons that begins at the person, closed or not, as a bookmark; a
-//! part of those of six persons, and of those that begin at another. All graphs of two and three persons, with every
-//! number of hops and every bookmark of up to six persons. Graphs of five persons by seeded samples, of any density and
-//! sparse, and with all links or all but one. With undated links admitted and left out: all graphs of three persons whose
-//! links are missing, undated or dated, with every bookmark of up to five persons; all ways in which the links of the full
-//! graph of four persons are undated or dated. Files of four and five persons with classes, meanings and windows by a
-//! seeded sample.
+//! seeded number of hops: every sequence of up to five persons that begins at the person and goes on to another at every
+//! hop, closed or not, as a bookmark; a part of all others of up to six persons, and of those that begin at somebody else.
+//! All graphs of two and three persons, with every number of hops and every bookmark of up to five persons. Graphs of five
+//! persons by seeded samples, of any density and sparse, and with all links or all but one. With undated links admitted
+//! and left out: all graphs of three persons whose links are missing, undated or dated, with every bookmark of up to four
+//! persons; all ways in which the links of the full graph of four persons are undated or dated. Files of four and five
+//! persons with classes, meanings and windows by a seeded sample.
 
 use independent::asked::Asked;
 use independent::files::{self, graph_of_number, links_of_graph, LinkFile};
@@ -53,7 +53,9 @@ fn graphs_of_four(person: u32) {
     for graph in 0..1 << links_of_graph(4) {
         let shape = graph_of_number(4, graph);
         every_number_of_hops(&shape, of(person, 8));
-        rings += Asked::new(shape.bytes(), of(person, 8)).rings().len();
+        let asked = Asked::new(shape.bytes(), of(person, 8));
+        asked.no_chain_comes_back();
+        rings += asked.rings().len();
     }
     // Each of 3 rings of two hops stands in a quarter of the graphs, each of 6 of three in an eighth, each of 6 of four in a
     // sixteenth.
@@ -113,41 +115,46 @@ fn rings_of_five_persons_with_all_links_but_at_most_one() {
 
 // Every bookmark.
 
-/// The records of all sequences of so many persons over `n` persons that begin at one of them.
-fn beginning_at(person: u32, n: u32, length: u32) -> Vec<[u32; 10]> {
-    let all = 0..n.pow(length - 1);
-    all.map(|code| {
-        let mut sequence = vec![person];
-        sequence.extend((0..length - 1).map(|place| code / n.pow(place) % n));
-        record(&sequence)
-    })
-    .collect()
+/// All sequences of 1 to `longest` persons over `n` persons that begin at one of them.
+fn beginning_at(person: u32, n: u32, longest: u32) -> Vec<Vec<u32>> {
+    let mut all = vec![vec![person]];
+    let mut first = 0;
+    for _ in 1..longest {
+        let end = all.len();
+        for place in first..end {
+            let longer = (0..n).map(|next| [&all[place][..], &[next]].concat());
+            all.extend(longer.collect::<Vec<_>>());
+        }
+        first = end;
+    }
+    all
 }
 
-/// The same for lengths from 1 up to this one.
-fn up_to(person: u32, n: u32, longest: u32) -> Vec<[u32; 10]> {
-    (1..=longest)
-        .flat_map(|length| beginning_at(person, n, length))
-        .collect()
+fn records(sequences: &[Vec<u32>]) -> Vec<[u32; 10]> {
+    sequences.iter().map(|sequence| record(sequence)).collect()
 }
 
+/// Does the sequence go on to another person at every hop?
+fn goes_on(sequence: &[u32]) -> bool {
+    sequence.windows(2).all(|hop| hop[0] != hop[1])
+}
+
+/// In every graph of four the sequences of up to five persons that begin at the person and go on at every hop; a part of
+/// all others of up to six persons, and of those that begin at somebody else.
 fn bookmarks_of_four(person: u32) {
     let mut random = Random::of_test(&format!("bookmarks of {person} in every graph of four"));
-    let shorter = up_to(person, 4, 5);
-    let longer = beginning_at(person, 4, 6);
-    let others = up_to((person + 1) % 4, 4, 5);
-    // Of both each graph gets a part.
-    let parts = rounds(4, 1);
+    let (in_every_graph, mut others): (Vec<_>, Vec<_>) = beginning_at(person, 4, 6)
+        .into_iter()
+        .partition(|sequence| sequence.len() < 6 && goes_on(sequence));
+    others.extend(beginning_at((person + 1) % 4, 4, 5));
+    let (in_every_graph, others) = (records(&in_every_graph), records(&others));
+    let parts = rounds(32, 1);
     let mut rings = 0;
     for graph in 0..1 << links_of_graph(4) {
-        let asked = Asked::new(
-            graph_of_number(4, graph).bytes(),
-            of(person, random.between(1, 8) as u32),
-        );
-        let part = random.below(parts);
-        let mut bookmarks = shorter.clone();
-        bookmarks.extend(longer.iter().skip(part).step_by(parts));
-        bookmarks.extend(others.iter().skip(part).step_by(parts));
+        let hops = random.between(1, 8) as u32;
+        let asked = Asked::new(graph_of_number(4, graph).bytes(), of(person, hops));
+        let mut bookmarks = in_every_graph.clone();
+        bookmarks.extend(others.iter().skip(random.below(parts)).step_by(parts));
         let taken = asked.one_ring_after_each(&bookmarks);
         assert_eq!(taken, asked.rings().len());
         rings += taken;
@@ -180,8 +187,8 @@ fn bookmarks_of_3_in_every_graph_of_four_persons() {
 fn bookmarks_in_every_graph_of_two_and_three_persons() {
     for n in [2, 3] {
         for person in 0..n {
-            let mut bookmarks = up_to(person, n, 6);
-            bookmarks.extend(up_to((person + 1) % n, n, 4));
+            let mut bookmarks = records(&beginning_at(person, n, 5));
+            bookmarks.extend(records(&beginning_at((person + 1) % n, n, 3)));
             for graph in 0..1 << links_of_graph(n) {
                 for hops in 1..=8 {
                     let file = graph_of_number(n, graph).bytes();
@@ -231,7 +238,7 @@ fn rings_in_every_graph_of_three_persons_with_links_undated_and_dated() {
 /// A ring over an undated link is none where undated links are left out.
 #[test]
 fn bookmarks_in_every_graph_of_three_persons_with_links_undated_and_dated() {
-    let bookmarks = [0, 1, 2].map(|person| up_to(person, 3, 5));
+    let bookmarks = [0, 1, 2].map(|person| records(&beginning_at(person, 3, 4)));
     for_each_dated_graph_of_three(|shape| {
         for person in 0..3 {
             for undated in BOTH {
