@@ -1,4 +1,4 @@
-//! Asks all six operations of so many random cases, each lent slice by itself on the heap: for a run under a memory
+//! Asks all seven operations of so many random cases, each lent slice by itself on the heap: for a run under a memory
 //! checker, which sees every step outside a slice and every use of a cell that was never written.
 
 use independent::case::{ask_in, random_case};
@@ -12,5 +12,5 @@ fn main() {
     for _ in 0..cases {
         ask_in(&random_case(&mut random), Memory::Alone);
     }
-    println!("{cases} cases, all six operations each");
+    println!("{cases} cases, all seven operations each");
 }

@@ -8,9 +8,10 @@ use crate::lister::{
     self, half_chains, held_of, listed, listing, listing_by_hops, moved_on, question_held, record,
     stored_of, Chain, Held, Listed, Question, Stored,
 };
-use crate::outside::{Library, USUAL};
+use crate::outside::{Bookmarked, Library, USUAL};
 use crate::questions::random_question;
 use crate::random::Random;
+use crate::ring_lister::{self, Ring};
 use std::cell::OnceCell;
 
 pub type Answer = Result<Listed, Refusal>;
@@ -18,7 +19,11 @@ pub type Answer = Result<Listed, Refusal>;
 /// An answer, the working cells and the output cells of a join.
 pub type Joined = (Answer, Vec<u32>, Vec<u32>);
 
+/// Chains or rings, or why there are none.
 type Chains = Result<Vec<Chain>, Refusal>;
+
+/// Asks for a portion of the chains, or of the rings: `Asked::portion`, or `Asked::ring_portion`.
+type Portion = fn(&Asked, u32, &[u32], usize) -> (Answer, Vec<u32>);
 
 pub struct Asked {
     pub file: Vec<u8>,
@@ -27,6 +32,7 @@ pub struct Asked {
     listing: OnceCell<Chains>,
     by_hops: OnceCell<Chains>,
     halves: OnceCell<Chains>,
+    rings: OnceCell<Chains>,
 }
 
 impl Asked {
@@ -38,6 +44,7 @@ impl Asked {
             listing: OnceCell::new(),
             by_hops: OnceCell::new(),
             halves: OnceCell::new(),
+            rings: OnceCell::new(),
         }
     }
 
@@ -103,6 +110,26 @@ impl Asked {
         10 * self.halves().as_ref().expect("the question passes").len()
     }
 
+    /// The rings of From, or the refusal: of 21 too, where To is another.
+    pub fn ring_listing(&self) -> &Chains {
+        self.rings
+            .get_or_init(|| ring_lister::rings(&self.file, &self.question))
+    }
+
+    /// The rings in dictionary order.
+    pub fn rings(&self) -> &[Ring] {
+        self.ring_listing().as_ref().expect("the question passes")
+    }
+
+    /// The same file and question asked for From alone: To is From.
+    pub fn back_to_from(&self) -> Asked {
+        let question = Question {
+            to: self.question.from,
+            ..self.question
+        };
+        Asked::new(self.file.clone(), question).of(self.library)
+    }
+
     // Asking.
 
     pub fn check(&self) -> checker::Verdict {
@@ -153,6 +180,49 @@ impl Asked {
             self.file
         );
         (told, out)
+    }
+
+    /// Asks for a portion of the rings; gives the answer and the output cells, which are the lister's.
+    pub fn ring_portion(&self, started: u32, bookmark: &[u32], cells: usize) -> (Answer, Vec<u32>) {
+        let mut out = untouched(cells);
+        let mut right_out = out.clone();
+        let told = self
+            .library
+            .rings(&self.file, &self.question, started, bookmark, &mut out);
+        let right = lister::portion(self.ring_listing(), started, bookmark, &mut right_out);
+        assert!(
+            told == right && out == right_out,
+            "rings, {:?}, started {started}, bookmark {bookmark:?}, {cells} cells of {:?}:\ntold {told:?} {out:?}\nright {right:?} {right_out:?}",
+            self.question,
+            self.file
+        );
+        (told, out)
+    }
+
+    /// Asks for one ring after each of these bookmarks; gives how many were rings. Answers and cells are the lister's.
+    pub fn one_ring_after_each(&self, bookmarks: &[[u32; 10]]) -> usize {
+        let mut lent = Bookmarked::new(&self.file);
+        let came: [u32; 10] = untouched(10).try_into().expect("ten cells");
+        let mut rings = 0;
+        for bookmark in bookmarks {
+            let (mut out, mut right_out) = (came, came);
+            let told = lent.ring_after(&self.question, bookmark, &mut out);
+            let right = lister::portion(self.ring_listing(), 1, bookmark, &mut right_out);
+            assert!(
+                told == right && out == right_out,
+                "rings, {:?}, bookmark {bookmark:?} of {:?}:\ntold {told:?} {out:?}\nright {right:?} {right_out:?}",
+                self.question,
+                self.file
+            );
+            rings += usize::from(told.is_ok());
+        }
+        rings
+    }
+
+    /// Asks for rings with the question as it is, and with From at both ends.
+    pub fn rings_as_asked_and_closed(&self, started: u32, bookmark: &[u32], cells: usize) {
+        let _ = self.ring_portion(started, bookmark, cells);
+        let _ = self.back_to_from().ring_portion(started, bookmark, cells);
     }
 
     /// The question, held.
@@ -277,13 +347,22 @@ impl Asked {
 
     /// Hands over the whole listing by portions with these rooms, then with room 1 again and again.
     pub fn by_rooms(&self, rooms: &[usize]) {
+        self.handed_over(Asked::portion, self.chains(), rooms);
+    }
+
+    /// The same with all rings.
+    pub fn rings_by_rooms(&self, rooms: &[usize]) {
+        self.handed_over(Asked::ring_portion, self.rings(), rooms);
+    }
+
+    fn handed_over(&self, portion: Portion, all: &[Chain], rooms: &[usize]) {
         let mut handed_over: Vec<u32> = vec![];
         let mut rooms = rooms.iter().copied().chain(std::iter::repeat(1));
         loop {
             let cells = 10 * rooms.next().expect("rooms never end");
             let (answer, out) = match handed_over.len() {
-                0 => self.portion(0, &[], cells),
-                all => self.portion(1, &handed_over[all - 10..], cells),
+                0 => portion(self, 0, &[], cells),
+                end => portion(self, 1, &handed_over[end - 10..], cells),
             };
             let listed = answer.expect("neither file nor question is refused");
             handed_over.extend(&out[..10 * listed.count as usize]);
@@ -291,7 +370,7 @@ impl Asked {
                 break;
             }
         }
-        assert_eq!(handed_over, records(self.chains()), "{:?}", self.question);
+        assert_eq!(handed_over, records(all), "{:?}", self.question);
     }
 
     /// Moves through the whole listing with these rooms, then goes on past the end.

@@ -27,6 +27,12 @@ extern "C" {
         started: u32, bookmark: *const u32, bookmark_length: usize,
         out: *mut u32, out_length: usize,
     ) -> u64;
+    fn kin_rings(
+        file: *const u8, file_length: usize,
+        from: u32, to: u32, hops: u32, classes: u32, meaning: u32, first_day: u32, last_day: u32, undated: u32,
+        started: u32, bookmark: *const u32, bookmark_length: usize,
+        out: *mut u32, out_length: usize,
+    ) -> u64;
     fn kin_held(
         held: *mut u32, held_length: usize,
         file: *const u8, file_length: usize,
@@ -66,6 +72,20 @@ pub fn portion(
 ) -> Result<Listed, Refusal> {
     listed_or_refused(unsafe {
         kin_portion(
+            file.0, file.1,
+            q.from, q.to, q.hops, q.classes, q.meaning, q.first_day, q.last_day, q.undated,
+            started, bookmark.0, bookmark.1,
+            out.0, out.1,
+        )
+    })
+}
+
+#[rustfmt::skip]
+pub fn rings(
+    file: Slice<u8>, q: &Question, started: u32, bookmark: Slice<u32>, out: Slice<u32>,
+) -> Result<Listed, Refusal> {
+    listed_or_refused(unsafe {
+        kin_rings(
             file.0, file.1,
             q.from, q.to, q.hops, q.classes, q.meaning, q.first_day, q.last_day, q.undated,
             started, bookmark.0, bookmark.1,

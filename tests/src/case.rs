@@ -1,11 +1,12 @@
-//! One case as bytes, for a fuzzer to change: a question, a person, a bookmark, rooms and a file. All six operations are
-//! asked, and every answer and every lent cell has to be what the independent checker and lister say.
+//! One case as bytes, for a fuzzer to change: a question, a person, a bookmark, rooms and a file. All seven operations
+//! are asked, and every answer and every lent cell has to be what the independent checker and lister say.
 
 use crate::asked::Asked;
+use crate::checker::Refusal;
 use crate::damage::{damaged, mend_header};
 use crate::files::{self, LinkFile};
 use crate::lent::Memory;
-use crate::lister::{record, Question};
+use crate::lister::{record, Chain, Question};
 use crate::outside::Library;
 use crate::questions::{first_to_last, random_question};
 use crate::random::Random;
@@ -18,9 +19,10 @@ const QUESTION: usize = 32;
 const ROOMS: usize = 5;
 const BOOKMARK: usize = 10;
 
-/// The bits of the byte that says how. The two bits above them choose where lent memory lies.
+/// The bits of the byte that says how. The two bits between them choose where lent memory lies.
 const MENDED: u8 = 1;
 const AT_A_CHAIN: u8 = 2;
+const AT_A_RING: u8 = 16;
 
 /// With more links than that brute force might not get through.
 const MOST_LINKS: u32 = 64;
@@ -57,7 +59,10 @@ pub fn ask_in(input: &[u8], memory: Memory) {
     let asked = Asked::new(file, Question::of_numbers(&numbers)).of(Library { memory });
     let mut bookmark = bookmark_of(bookmark);
     if how & AT_A_CHAIN != 0 {
-        put_chain(&asked, rooms[4], &mut bookmark);
+        put_one(asked.listing(), rooms[4], &mut bookmark);
+    }
+    if how & AT_A_RING != 0 {
+        put_one(asked.back_to_from().ring_listing(), rooms[4], &mut bookmark);
     }
     ask_all(&asked, rooms, &bookmark);
 }
@@ -75,11 +80,11 @@ fn bookmark_of(bytes: &[u8]) -> [u32; 10] {
     cells
 }
 
-/// Puts a chain of the listing in the bookmark, where there is one.
-fn put_chain(asked: &Asked, which: u8, bookmark: &mut [u32; 10]) {
-    if let Ok(chains) = asked.listing() {
-        if !chains.is_empty() {
-            *bookmark = record(&chains[usize::from(which) % chains.len()]);
+/// Puts a chain or a ring of the listing in the bookmark, where there is one.
+fn put_one(listing: &Result<Vec<Chain>, Refusal>, which: u8, bookmark: &mut [u32; 10]) {
+    if let Ok(all) = listing {
+        if !all.is_empty() {
+            *bookmark = record(&all[usize::from(which) % all.len()]);
         }
     }
 }
@@ -96,6 +101,7 @@ fn ask_all(asked: &Asked, rooms: &[u8], bookmark: &[u32; 10]) {
     }
     let _ = asked.fewest(person);
     let _ = asked.portion(started, &bookmark[..usize::from(length)], cells);
+    asked.rings_as_asked_and_closed(started, &bookmark[..usize::from(length)], cells);
     asked.moved_in_each_form(started, bookmark, cells);
     let _ = asked.join(working, cells);
 }
@@ -134,7 +140,7 @@ pub fn random_wide_case(random: &mut Random) -> Vec<u8> {
 }
 
 fn case_over(random: &mut Random, shape: &LinkFile, question: &Question) -> Vec<u8> {
-    let mut input = vec![random.below(16) as u8];
+    let mut input = vec![random.below(32) as u8];
     for number in question.numbers() {
         input.extend(number.to_le_bytes());
     }
@@ -152,11 +158,16 @@ fn case_over(random: &mut Random, shape: &LinkFile, question: &Question) -> Vec<
     input
 }
 
-/// The record of a chain where there is one, with a cell changed now and then; otherwise any small cells.
+/// The record of a chain or of a ring where there is one, with a cell changed now and then; otherwise any small cells.
 fn random_bookmark(random: &mut Random, shape: &LinkFile, question: &Question) -> [u8; 10] {
     let asked = Asked::new(shape.bytes(), *question);
     let mut cells = [0; 10].map(|_: u32| random.below(8) as u32);
-    put_chain(&asked, random.any() as u8, &mut cells);
+    let which = random.any() as u8;
+    if random.chance(1, 2) {
+        put_one(asked.listing(), which, &mut cells);
+    } else {
+        put_one(asked.back_to_from().ring_listing(), which, &mut cells);
+    }
     if random.chance(1, 2) {
         cells[random.below(10)] = random.below(8) as u32;
     }

@@ -133,6 +133,16 @@ impl<T: Element> Lent<T> {
         }
     }
 
+    /// Fills a part between zones anew, as if it were lent again.
+    pub fn fill(&mut self, contents: &[T]) {
+        let part = self.start..self.start + self.length;
+        self.before_call[part.clone()].copy_from_slice(contents);
+        match &mut self.block {
+            Block::Heap(all) => all[part].copy_from_slice(contents),
+            Block::Paged(_) => panic!("pages are lent once"),
+        }
+    }
+
     /// The part as the library takes it.
     pub fn slice(&mut self) -> Slice<T> {
         // No elements may lie at the very end of what there is.
@@ -177,6 +187,19 @@ impl VastTail {
         unsafe { std::ptr::copy_nonoverlapping(bytes.as_ptr(), pages.pointer(), bytes.len()) };
         pages.close();
         VastTail { pages, length }
+    }
+
+    /// The same, and the first bytes may be written too: all others only read.
+    pub fn opened(bytes: &[u8], zeros: usize) -> VastTail {
+        let vast = VastTail::new(bytes, zeros);
+        vast.pages.open(bytes.len());
+        vast
+    }
+
+    /// The first so many elements as they are now.
+    pub fn first<T: Element>(&self, count: usize) -> Vec<T> {
+        assert!(count <= self.length / size_of::<T>());
+        unsafe { std::slice::from_raw_parts(self.pages.pointer() as *const T, count).to_vec() }
     }
 
     /// The bytes and the zeros, as elements of any size: pages suit cells too.

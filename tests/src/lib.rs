@@ -1,6 +1,6 @@
-//! What the independent tests stand on. Nothing here is taken from the proved crates: `checker` and `lister` are
-//! written from the customer's documents and the readings in docs/DECISIONS.md, plainly and without any pruning, so
-//! that an answer they share with the static library is no shared mistake.
+//! What the independent tests stand on. Nothing here is taken from the proved crates: `checker`, `lister`,
+//! `ring_lister` and `rules` are written from the customer's documents and the readings in docs/DECISIONS.md, plainly and
+//! without any pruning, so that an answer they share with the static library is no shared mistake.
 
 pub mod asked;
 pub mod calls;
@@ -16,4 +16,6 @@ pub mod pages;
 pub mod programme;
 pub mod questions;
 pub mod random;
+pub mod ring_lister;
+pub mod rules;
 pub mod verdicts;

@@ -98,7 +98,8 @@ pub fn listed(count: u64, ended: bool) -> Result<Listed, Refusal> {
     Ok(Listed { count, ended })
 }
 
-/// The portion of a listing, written to `out` as it has to be. With `started` 0 the bookmark isn't looked at.
+/// The portion of a listing, written to `out` as it has to be. With `started` 0 the bookmark isn't looked at. What is
+/// listed may be chains or rings.
 pub fn portion(
     listing: &Result<Vec<Chain>, Refusal>,
     started: u32,
@@ -296,7 +297,7 @@ fn first_way(hops: &Hops, question: &Question, so_far: &mut Chain) -> bool {
     false
 }
 
-fn ends_below_n(question: &Question, n: u32) -> Result<(), Refusal> {
+pub fn ends_below_n(question: &Question, n: u32) -> Result<(), Refusal> {
     if question.from >= n {
         return refused(10, 0);
     }
@@ -310,6 +311,11 @@ fn question_refusals(question: &Question) -> Result<(), Refusal> {
     if question.from == question.to {
         return refused(11, 0);
     }
+    refusals_behind_the_ends(question)
+}
+
+/// 12 to 15 and 20, which look at neither From nor To.
+pub fn refusals_behind_the_ends(question: &Question) -> Result<(), Refusal> {
     if !(1..=8).contains(&question.hops) {
         return refused(12, 0);
     }
@@ -329,7 +335,7 @@ fn question_refusals(question: &Question) -> Result<(), Refusal> {
     Ok(())
 }
 
-fn admitted_hops(file: &[u8], counts: Counts, question: &Question) -> Hops {
+pub fn admitted_hops(file: &[u8], counts: Counts, question: &Question) -> Hops {
     let mut hops = vec![];
     for person in 0..counts.n {
         let (first, end) = checker::row(file, counts, person);

@@ -1,10 +1,13 @@
 //! The static library with memory lent to it. Every call lends a copy and fails if memory that has to stay as it came
 //! did not.
 
-use crate::calls::{self, nothing};
+use crate::calls::{self, nothing, Slice};
 use crate::checker::{Refusal, Verdict};
 use crate::lent::{Lease, Lent, Memory, VastTail};
 use crate::lister::{Listed, Question};
+
+/// A call that hands over a portion of a listing: of chains, or of rings.
+type Listing = fn(Slice<u8>, &Question, u32, Slice<u32>, Slice<u32>) -> Result<Listed, Refusal>;
 
 /// The library, lending memory of one sort.
 #[derive(Clone, Copy, Debug)]
@@ -68,10 +71,34 @@ impl Library {
         bookmark: &[u32],
         out: &mut [u32],
     ) -> Result<Listed, Refusal> {
+        self.hands_over(calls::portion, file, question, started, bookmark, out)
+    }
+
+    /// Asks for a portion of the rings, as for one of the chains.
+    pub fn rings(
+        self,
+        file: &[u8],
+        question: &Question,
+        started: u32,
+        bookmark: &[u32],
+        out: &mut [u32],
+    ) -> Result<Listed, Refusal> {
+        self.hands_over(calls::rings, file, question, started, bookmark, out)
+    }
+
+    fn hands_over(
+        self,
+        listing: Listing,
+        file: &[u8],
+        question: &Question,
+        started: u32,
+        bookmark: &[u32],
+        out: &mut [u32],
+    ) -> Result<Listed, Refusal> {
         let mut lent_file = self.file(file);
         let mut lent_bookmark = Lent::in_memory(self.memory, bookmark, Lease::ToRead);
         let mut lent_out = self.cells(out);
-        let told = calls::portion(
+        let told = listing(
             lent_file.slice(),
             question,
             started,
@@ -197,10 +224,7 @@ pub fn portion(
 
 /// A portion with no output cells and no bookmark cells, both at the null pointer.
 pub fn portion_null(file: &[u8], question: &Question, started: u32) -> Result<Listed, Refusal> {
-    let mut lent = Lent::new(file);
-    let told = calls::portion(lent.slice(), question, started, nothing(), nothing());
-    lent.assert_as_it_came();
-    told
+    hands_over_null(calls::portion, file, question, started)
 }
 
 /// A fresh portion without a bookmark's cells at all.
@@ -209,12 +233,159 @@ pub fn portion_null_bookmark(
     question: &Question,
     out: &mut [u32],
 ) -> Result<Listed, Refusal> {
+    hands_over_null_bookmark(calls::portion, file, question, 0, out)
+}
+
+fn hands_over_null(
+    listing: Listing,
+    file: &[u8],
+    question: &Question,
+    started: u32,
+) -> Result<Listed, Refusal> {
+    let mut lent = Lent::new(file);
+    let told = listing(lent.slice(), question, started, nothing(), nothing());
+    lent.assert_as_it_came();
+    told
+}
+
+fn hands_over_null_bookmark(
+    listing: Listing,
+    file: &[u8],
+    question: &Question,
+    started: u32,
+    out: &mut [u32],
+) -> Result<Listed, Refusal> {
     let mut lent_file = Lent::new(file);
     let mut lent_out = Lent::new(out);
-    let told = calls::portion(lent_file.slice(), question, 0, nothing(), lent_out.slice());
+    let told = listing(
+        lent_file.slice(),
+        question,
+        started,
+        nothing(),
+        lent_out.slice(),
+    );
     lent_file.assert_as_it_came();
     take_back(&lent_out, out);
     told
+}
+
+// The rings.
+
+pub fn rings(
+    file: &[u8],
+    question: &Question,
+    started: u32,
+    bookmark: &[u32],
+    out: &mut [u32],
+) -> Result<Listed, Refusal> {
+    USUAL.rings(file, question, started, bookmark, out)
+}
+
+/// Rings with no output cells and no bookmark cells, both at the null pointer.
+pub fn rings_null(file: &[u8], question: &Question, started: u32) -> Result<Listed, Refusal> {
+    hands_over_null(calls::rings, file, question, started)
+}
+
+/// Rings without a bookmark's cells at all.
+pub fn rings_null_bookmark(
+    file: &[u8],
+    question: &Question,
+    started: u32,
+    out: &mut [u32],
+) -> Result<Listed, Refusal> {
+    hands_over_null_bookmark(calls::rings, file, question, started, out)
+}
+
+/// Rings of no bytes at the null pointer.
+pub fn rings_null_file(question: &Question, out: &mut [u32]) -> Result<Listed, Refusal> {
+    let mut lent_out = Lent::new(out);
+    let told = calls::rings(nothing(), question, 0, nothing(), lent_out.slice());
+    take_back(&lent_out, out);
+    told
+}
+
+/// Rings after a bookmark of very many cells.
+pub fn rings_vast_bookmark(
+    file: &[u8],
+    question: &Question,
+    bookmark: &VastTail,
+    out: &mut [u32],
+) -> Result<Listed, Refusal> {
+    let (mut lent_file, mut lent_out) = (Lent::new(file), Lent::new(out));
+    let told = calls::rings(
+        lent_file.slice(),
+        question,
+        1,
+        bookmark.slice(),
+        lent_out.slice(),
+    );
+    lent_file.assert_as_it_came();
+    take_back(&lent_out, out);
+    told
+}
+
+/// Rings into an output of very many cells.
+pub fn rings_vast_output(
+    file: &[u8],
+    question: &Question,
+    out: &VastTail,
+) -> Result<Listed, Refusal> {
+    let mut lent_file = Lent::new(file);
+    let told = calls::rings(lent_file.slice(), question, 0, nothing(), out.slice());
+    lent_file.assert_as_it_came();
+    told
+}
+
+/// Rings of a file of very many bytes.
+pub fn rings_vast_file(
+    file: &VastTail,
+    question: &Question,
+    out: &mut [u32],
+) -> Result<Listed, Refusal> {
+    let mut lent_out = Lent::new(out);
+    let told = calls::rings(file.slice(), question, 0, nothing(), lent_out.slice());
+    take_back(&lent_out, out);
+    told
+}
+
+/// A file lent once, with ten cells for a bookmark and ten for a ring that are filled anew before each call: for runs in
+/// which lending takes longer than asking.
+pub struct Bookmarked {
+    file: Lent<u8>,
+    bookmark: Lent<u32>,
+    out: Lent<u32>,
+}
+
+impl Bookmarked {
+    pub fn new(file: &[u8]) -> Bookmarked {
+        Bookmarked {
+            file: Lent::new(file),
+            bookmark: Lent::new(&[0; 10]),
+            out: Lent::new(&[0; 10]),
+        }
+    }
+
+    /// Asks for one ring after the bookmark; `out` comes back as the library left it, all else has to stay as it came.
+    pub fn ring_after(
+        &mut self,
+        question: &Question,
+        bookmark: &[u32; 10],
+        out: &mut [u32; 10],
+    ) -> Result<Listed, Refusal> {
+        self.bookmark.fill(bookmark);
+        self.out.fill(out);
+        let told = calls::rings(
+            self.file.slice(),
+            question,
+            1,
+            self.bookmark.slice(),
+            self.out.slice(),
+        );
+        self.file.assert_as_it_came();
+        self.bookmark.assert_as_it_came();
+        take_back(&self.out, out);
+        told
+    }
 }
 
 // The held listing.

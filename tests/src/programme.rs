@@ -1,6 +1,7 @@
 //! Everything there is to ask of one question, for graphs small enough that it can be asked.
 
 use crate::asked::Asked;
+use crate::checker::refused;
 use crate::lister::{listed, record};
 
 impl Asked {
@@ -12,6 +13,7 @@ impl Asked {
         self.stored_before_chain_by_chain();
         self.joined_with_just_enough();
         self.fewest_of_everybody(n);
+        self.no_ring_between_two();
     }
 
     /// The whole listing, once by each route, and everybody's fewest hops.
@@ -23,10 +25,31 @@ impl Asked {
         self.fewest_of_everybody(n);
     }
 
+    /// The whole programme of the rings of one person, for a question that has that person at both ends.
+    pub fn everything_of_rings(&self) {
+        self.rings_fresh_with_every_room();
+        self.rings_resumed_at_every_ring();
+    }
+
+    /// All rings at once, and all that are left after each, with cells to spare that are no room.
+    pub fn rings_once(&self) {
+        let cells = 10 * self.rings().len() + 15;
+        let _ = self.ring_portion(0, &[], cells);
+        for ring in self.rings() {
+            let _ = self.ring_portion(1, &record(ring), cells);
+        }
+    }
+
     /// Rooms from 1 to one more than there are chains, with cells to spare that are no room.
     pub fn fresh_with_every_room(&self) {
         for room in 1..=self.chains().len() + 1 {
             let _ = self.portion(0, &[], 10 * room + room % 10);
+        }
+    }
+
+    pub fn rings_fresh_with_every_room(&self) {
+        for room in 1..=self.rings().len() + 1 {
+            let _ = self.ring_portion(0, &[], 10 * room + room % 10);
         }
     }
 
@@ -38,6 +61,29 @@ impl Asked {
                 let _ = self.portion(1, &record(chain), 10 * room);
             }
         }
+    }
+
+    /// After each ring, with rooms from 1 to one more than there are rings left.
+    pub fn rings_resumed_at_every_ring(&self) {
+        let count = self.rings().len();
+        for (place, ring) in self.rings().iter().enumerate() {
+            for room in 1..=count - place {
+                let _ = self.ring_portion(1, &record(ring), 10 * room);
+            }
+        }
+    }
+
+    /// Rings are asked of one person: a question from one to another gets 21.
+    pub fn no_ring_between_two(&self) {
+        assert_eq!(self.ring_portion(0, &[], 30).0, refused(21, 0));
+    }
+
+    /// Chains are asked of two: a question from a person to the same one gets 11 from every operation but rings.
+    pub fn no_chain_comes_back(&self) {
+        assert_eq!(self.portion(0, &[], 30).0, refused(11, 0));
+        assert_eq!(self.moved(&mut self.fresh(), 30).0, refused(11, 0));
+        assert_eq!(self.join(30, 30).0, refused(11, 0));
+        assert_eq!(self.fewest(self.question.from), refused(11, 0));
     }
 
     /// At its end a held listing stays, whichever way it came there.

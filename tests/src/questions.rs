@@ -23,6 +23,22 @@ pub const A: &[u32] = &[0, 1, 3, 5];
 pub const B: &[u32] = &[0, 2, 1, 3, 5];
 pub const C: &[u32] = &[0, 2, 3, 5];
 
+/// R of the six-person file: as Q, but from person 2 back to person 2, and in at most five hops.
+pub const R: Question = Question {
+    from: 2,
+    to: 2,
+    hops: 5,
+    ..Q
+};
+
+/// The rings of R, in dictionary order.
+pub const R_RINGS: [&[u32]; 4] = [
+    &[2, 1, 3, 2],
+    &[2, 1, 3, 5, 0, 2],
+    &[2, 3, 2],
+    &[2, 3, 5, 0, 2],
+];
+
 /// Q as it is held, written out cell by cell.
 pub const Q_HELD: Held = [
     0, 5, 4, 15, 1, 1, 3_652_059, 1, 0, 7, 7, 7, 7, 7, 7, 7, 7, 7, 7,
@@ -102,9 +118,18 @@ pub struct QuestionFault {
 }
 
 impl QuestionFault {
-    /// Where the fault stands in the order: 10 by its place, then by number.
+    /// Where the fault stands in the order: 10 by its place, then by number, but that 21 comes in 11's place.
     pub fn rank(&self) -> (u32, u32) {
-        (self.refusal.number, self.refusal.place)
+        let Refusal { number, place } = self.refusal;
+        (if number == 21 { 11 } else { number }, place)
+    }
+
+    /// Can both be put in one question, so that each is still there? Two that make From and To differ may make them the
+    /// same again.
+    fn goes_with(&self, other: &QuestionFault) -> bool {
+        let both_21 = self.refusal.number == 21 && other.refusal.number == 21;
+        self.number_of_question != other.number_of_question
+            && !(both_21 && self.value == other.value)
     }
 }
 
@@ -178,22 +203,45 @@ fn note(
     }
 }
 
+/// Every fault of the catalogue for a question of rings like R over `n` persons: 21 where 11 was.
+pub fn ring_question_faults(n: u32, person: u32) -> Vec<QuestionFault> {
+    let mut faults = question_faults(n, person);
+    faults.retain(|fault| fault.number_of_question != EXTRA_PERSON && fault.refusal.number != 11);
+    let others: Vec<u32> = (0..n).filter(|&other| other != person).collect();
+    note(&mut faults, 0, &others, 21, 0);
+    note(&mut faults, 1, &others, 21, 0);
+    faults
+}
+
 /// Q over the six-person file with every two faults of the catalogue but the extra person's, and the verdict: the refusal
 /// of the one that is looked at first.
 pub fn faulty_questions() -> Vec<(Question, Refusal)> {
     let mut faults = question_faults(6, Q.from);
     faults.retain(|fault| fault.number_of_question != EXTRA_PERSON);
+    every_two(&Q, &faults)
+}
+
+/// R over the six-person file with every two faults of its catalogue, and the verdict.
+pub fn faulty_ring_questions() -> Vec<(Question, Refusal)> {
+    every_two(&R, &ring_question_faults(6, R.from))
+}
+
+fn every_two(question: &Question, faults: &[QuestionFault]) -> Vec<(Question, Refusal)> {
     let mut questions = vec![];
-    for one in &faults {
-        for other in &faults {
-            let together = one.number_of_question != other.number_of_question;
-            if together && one.rank() <= other.rank() {
-                let mut numbers = numbers_of(&Q, 0);
-                numbers[other.number_of_question] = other.value;
-                numbers[one.number_of_question] = one.value;
-                questions.push((question_of(&numbers), one.refusal));
+    for one in faults {
+        for other in faults {
+            if one.goes_with(other) && one.rank() <= other.rank() {
+                let faulty = with_fault(&with_fault(question, other), one);
+                questions.push((faulty, one.refusal));
             }
         }
     }
     questions
+}
+
+/// The question with the fault in it, which is not the extra person's.
+pub fn with_fault(question: &Question, fault: &QuestionFault) -> Question {
+    let mut numbers = numbers_of(question, 0);
+    numbers[fault.number_of_question] = fault.value;
+    question_of(&numbers)
 }

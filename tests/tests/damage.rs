@@ -1,4 +1,4 @@
-//! Damaged files, asked of all six operations: each answers as the independent checker and lister say, and where it is
+//! Damaged files, asked of all seven operations: each answers as the independent checker and lister say, and where it is
 //! refused every lent cell stays as it came.
 //!
 //! Covers: cut and grown slices, changed bytes and bits, other header numbers, changed and exchanged table rows, headers
@@ -26,9 +26,15 @@ fn question_over(random: &mut Random, n: usize) -> Question {
     question_of(&numbers)
 }
 
-/// Ten cells that were a chain's record before the damage, or are none.
+/// Ten cells that were a chain's or a ring's record before the damage, or are none.
 fn bookmark_from(random: &mut Random, undamaged: &Asked) -> [u32; 10] {
-    let chains = match undamaged.listing() {
+    let rings = undamaged.back_to_from();
+    let listing = if random.chance(1, 3) {
+        rings.ring_listing()
+    } else {
+        undamaged.listing()
+    };
+    let chains = match listing {
         Ok(chains) if !chains.is_empty() => chains,
         _ => return [random.below(9) as u32; 10],
     };
@@ -39,7 +45,7 @@ fn bookmark_from(random: &mut Random, undamaged: &Asked) -> [u32; 10] {
     cells
 }
 
-/// All six operations, with cells enough or too few.
+/// All seven operations, with cells enough or too few.
 fn ask_all(random: &mut Random, asked: &Asked, bookmark: &[u32; 10], n: u32) -> Verdict {
     let verdict = asked.check();
     let person = random.below(n as usize + 1) as u32;
@@ -48,6 +54,7 @@ fn ask_all(random: &mut Random, asked: &Asked, bookmark: &[u32; 10], n: u32) -> 
     let cells = random.one_of(&[9, 10, 25, 200]);
     let started = random.below(2) as u32;
     let _ = asked.portion(started, bookmark, cells);
+    asked.rings_as_asked_and_closed(started, bookmark, cells);
     asked.moved_in_each_form(started, bookmark, cells);
     let working = random.one_of(&[0, 9, 10, 40, 90, 400]);
     let _ = asked.join(working, cells);

@@ -1,7 +1,7 @@
 //! Lent slices at the start and at the end of pages, beside which nothing may even be read: a step outside what was lent
 //! ends the run. File and bookmark lie in pages that may only be read.
 //!
-//! Covers: thousands of random cases, sound and damaged, asked of all six operations; whole listings by every route over
+//! Covers: thousands of random cases, sound and damaged, asked of all seven operations; whole listings by every route over
 //! small graphs; rooms 1 to 50; the largest file; slices of no elements.
 
 use independent::asked::Asked;
@@ -35,6 +35,9 @@ fn everything_about_small_files_at_both_edges() {
             for library in AT_THE_EDGES {
                 let asked = Asked::new(shape.bytes(), question).of(library);
                 asked.everything(n as u32);
+                let rings = asked.back_to_from();
+                rings.everything_of_rings();
+                rings.no_chain_comes_back();
                 if question.undated == 1 {
                     asked.to_the_end_with_every_room(asked.fresh_stored());
                 }
@@ -57,6 +60,19 @@ fn rooms_from_1_to_50() {
             let _ = asked.moved_to_the_end(asked.fresh_stored(), &rooms);
             let _ = asked.join(asked.enough(), 10 * room);
         }
+        // 7 + 42 + 210 rings.
+        let rings = Asked::new(
+            file.clone(),
+            Question {
+                to: 0,
+                ..first_to_last(8, 4)
+            },
+        )
+        .of(library);
+        assert_eq!(rings.rings().len(), 259);
+        for room in 1..=50 {
+            rings.rings_by_rooms(&vec![room; 259]);
+        }
     }
 }
 
@@ -72,6 +88,7 @@ fn a_largest_file_at_both_edges() {
         for library in AT_THE_EDGES {
             let asked = Asked::new(shape.bytes(), question).of(library);
             asked.once_by_each_route(8);
+            asked.back_to_from().rings_once();
             let changed = damaged(&mut random, &shape);
             let _ = Asked::new(changed, question).of(library).check();
         }
@@ -90,6 +107,8 @@ fn slices_of_no_elements_at_both_edges() {
             for started in [0, 1] {
                 let _ = asked.portion(started, &[], 0);
                 let _ = asked.portion(started, &[], 30);
+                asked.rings_as_asked_and_closed(started, &[], 0);
+                asked.rings_as_asked_and_closed(started, &[], 30);
                 asked.moved_in_each_form(started, &[1; 10], 0);
             }
             let _ = asked.join(0, 0);

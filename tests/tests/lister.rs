@@ -1,14 +1,18 @@
 //! The independent lister held against the listings the customer states for the six-person file, and against small
-//! graphs whose chains can be seen by eye. The library isn't asked here: this says that what it is compared with is
+//! graphs whose chains can be seen by eye; the lister of rings against the same file's rings found by hand, and against
+//! the rule tried on every sequence of persons. The library isn't asked here: this says that what it is compared with is
 //! right.
 
 use independent::checker::{refused, LAST_DAY};
-use independent::files;
+use independent::files::{self, graph_of_number};
 use independent::lister::{
     fewest, half_chains, held_of, listing, listing_by_hops, question_held, record, stored_of,
     Chain, Question,
 };
-use independent::questions::{Q, Q_HELD, Q_STORED};
+use independent::questions::{random_question, Q, Q_HELD, Q_STORED, R, R_RINGS};
+use independent::random::Random;
+use independent::ring_lister::{self, rings};
+use independent::rules::{is_ring, rings_by_rule};
 
 fn lists(question: Question, chains: &[&[u32]]) {
     let file = files::six_persons().bytes();
@@ -180,4 +184,111 @@ fn half_chains_join_to_the_listing_by_hops() {
         by_hops,
         [vec![0, 1, 3, 5], vec![0, 2, 3, 5], vec![0, 2, 1, 3, 5]]
     );
+}
+
+// Rings.
+
+#[test]
+#[rustfmt::skip]
+fn the_rings_of_the_six_person_file() {
+    let file = files::six_persons().bytes();
+    let lists = |question: Question, stated: &[&[u32]]| {
+        let told = rings(&file, &question).expect("the question passes");
+        assert_eq!(told, stated, "{question:?}");
+    };
+    let [a, b, c, d] = R_RINGS;
+    lists(R, &[a, b, c, d]);
+    lists(Question { hops: 8, ..R }, &[a, b, c, d]);
+    lists(Question { hops: 4, ..R }, &[a, c, d]);
+    lists(Question { hops: 3, ..R }, &[a, c]);
+    lists(Question { hops: 2, ..R }, &[c]);
+    lists(Question { hops: 1, ..R }, &[]);
+    lists(Question { undated: 0, ..R }, &[a, c]);
+    lists(Question { from: 4, to: 4, ..R }, &[]);
+}
+
+#[test]
+#[rustfmt::skip]
+fn the_refusals_of_rings() {
+    let file = files::six_persons().bytes();
+    let refuses = |question: Question, number, place| {
+        assert_eq!(rings(&file, &question), refused(number, place), "{question:?}");
+    };
+    refuses(Question { from: 6, to: 6, ..R }, 10, 0);
+    refuses(Question { from: 6, ..R }, 10, 0);
+    refuses(Question { to: 6, ..R }, 10, 1);
+    refuses(Question { from: 1, ..R }, 21, 0);
+    refuses(Question { to: 1, hops: 0, ..R }, 21, 0);
+    refuses(Question { hops: 0, ..R }, 12, 0);
+    refuses(Question { classes: 16, ..R }, 13, 0);
+    refuses(Question { meaning: 3, ..R }, 14, 0);
+    refuses(Question { first_day: 0, undated: 2, ..R }, 15, 0);
+    refuses(Question { undated: 2, ..R }, 20, 0);
+    assert_eq!(rings(&file[..187], &Question { to: 1, ..R }), refused(3, 0));
+}
+
+/// The rule says yes to nothing but these, whatever else is nearly one.
+#[test]
+fn the_rule_of_a_ring() {
+    let shape = files::six_persons();
+    let holds = |sequence: &[u32]| is_ring(&shape, &R, sequence);
+    assert!(R_RINGS.iter().all(|ring| holds(ring)));
+    let wrong: [&[u32]; 10] = [
+        &[],
+        &[2],
+        &[2, 2],
+        &[2, 3],
+        &[3, 2, 3],                // of another person
+        &[2, 3, 5, 0],             // not closed
+        &[2, 3, 2, 3, 2],          // passes through the person
+        &[2, 0, 5, 3, 2],          // the other way round
+        &[2, 1, 4, 5, 0, 2],       // over a link that is not admitted
+        &[2, 1, 3, 5, 0, 1, 3, 2], // persons twice, and too long
+    ];
+    assert!(wrong.iter().all(|sequence| !holds(sequence)));
+    assert!(!is_ring(&shape, &Question { hops: 4, ..R }, R_RINGS[1]));
+    // There and back, twice: only the person stands in the middle, and nobody else twice.
+    let star = files::undated(3, &[(0, 2), (1, 2), (2, 0), (2, 1)]);
+    assert!(is_ring(&star, &R, &[2, 0, 2]));
+    assert!(!is_ring(&star, &R, &[2, 0, 2, 1, 2]));
+}
+
+#[test]
+fn the_lister_of_rings_keeps_the_rule() {
+    for graph in 0..1 << 12 {
+        let shape = graph_of_number(4, graph);
+        let question = Question {
+            hops: 1 + graph % 8,
+            from: graph / 8 % 4,
+            to: graph / 8 % 4,
+            ..Q
+        };
+        let told = rings(&shape.bytes(), &question).expect("the question passes");
+        assert_eq!(told, rings_by_rule(&shape, &question), "{graph}");
+    }
+    let mut random = Random::of_test("the_lister_of_rings_keeps_the_rule");
+    let mut with_rings = 0;
+    for _ in 0..4_000 {
+        let shape = files::random_file(&mut random, 6);
+        let mut question = random_question(&mut random, shape.persons().max(2));
+        question.from %= shape.persons() as u32;
+        question.to = question.from;
+        let told = rings(&shape.bytes(), &question).expect("the question passes");
+        assert_eq!(told, rings_by_rule(&shape, &question), "{shape:?}");
+        with_rings += usize::from(told.len() > 1);
+    }
+    assert!(with_rings > 100, "{with_rings}");
+}
+
+#[test]
+fn the_ring_that_follows() {
+    let file = files::everybody_linked(5).bytes();
+    for hops in 2..=8 {
+        let question = Question { hops, ..R };
+        let all = rings(&file, &question).expect("the question passes");
+        for (place, ring) in all.iter().enumerate() {
+            let next = ring_lister::following(&file, &question, ring);
+            assert_eq!(next.as_ref(), all.get(place + 1));
+        }
+    }
 }

@@ -210,6 +210,21 @@ fn every_refusal_of_a_file() {
 }
 
 #[test]
+fn it_lists_no_rings() {
+    for person in 0..6 {
+        for hops in [1, 5, 8] {
+            let question = Question {
+                from: person,
+                to: person,
+                hops,
+                ..Q
+            };
+            assert_eq!(six(question), "refused 11 at 0\n");
+        }
+    }
+}
+
+#[test]
 fn every_refusal_of_a_question() {
     let file = files::six_persons().bytes();
     for fault in &question_faults(6, Q.from) {

@@ -15,6 +15,7 @@ use independent::lent::untouched;
 use independent::lister::{listed, record, Chain, Question};
 use independent::questions::{random_question, A, B, C, NOT_UNDATED, Q};
 use independent::random::Random;
+use independent::rules::{has_a_day_asked_for, in_the_classes};
 
 /// The same question with another eighth number.
 fn with(undated: u32, question: &Question) -> Question {
@@ -240,24 +241,6 @@ fn chains_of_the_undated_only(shape: &LinkFile, question: &Question) -> u64 {
 }
 
 // Rules of their own.
-
-/// Does the class of the link stand in the sum of the question's?
-fn in_the_classes(link: &Link, question: &Question) -> bool {
-    let class = match link.kind {
-        1 | 2 | 4 => 1,
-        3 => 2,
-        5 => 4,
-        _ => 8,
-    };
-    question.classes / class % 2 == 1
-}
-
-/// Has the link a day from the first to the last, from a feed whose meaning is the question's?
-fn has_a_day_asked_for(shape: &LinkFile, link: &Link, question: &Question) -> bool {
-    let meaning = shape.feeds[usize::from(link.feed)].meaning;
-    let window = question.first_day..=question.last_day;
-    window.contains(&link.day) && u32::from(meaning) == question.meaning
-}
 
 /// Every sequence of different persons from From to To is tried, whatever the links are; those of at most so many hops
 /// stay that have at each a link which is admitted.
