@@ -1,5 +1,6 @@
 // The search: entering a person, and going through that person's links. It lists the chains of the compact graph in
-// dictionary order, from a bookmark on, as records, until there is no more room, and says whether one more follows.
+// dictionary order, from a bookmark on, as records, until there is no more room, and says whether one more follows. From and To may be one
+// person: then what it lists comes back to that person.
 // One face, `list`, lends marks, barriers and trail down to two functions that call each other in a cycle. What it promises
 // speaks of the listing alone. Pruning, by the fewest hops at first and by barriers from then on, changes no listing:
 // that is proved; the time it saves is measured.
