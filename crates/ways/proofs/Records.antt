@@ -1,6 +1,6 @@
 -- Records: a record tells its chain, has its size, and is known by its shape; records laid end to end tell their list.
 use mathlib.Core.Path.{_≡_, refl, sym, ap, ap₂, subst, _∙_}
-use mathlib.Core.Logic.{_↔_}
+use mathlib.Core.Logic.{_≢_, _↔_}
 use mathlib.Core.Bool.{Bool, true, false, false≢true, cond}
 use mathlib.Core.List.{List, [], _∷_, _++_, append-assoc, cons≢nil, List·Memᴰ·head, List·Memᴰ·tail, Memᴰ·of-map, Memᴰ·cast}
 use Prim.Native.Nat.{ℕ, suc, _+_, _-_, _*_, _≤_, _<_}
@@ -11,11 +11,11 @@ use lib.Seq.{take-at, drop-at, drop-append-seam, length-take-le}
 use lib.Dec.{eqb}
 use borrow.Author.Tests.{eqb-true, eq-eqb}
 use Rattle.ways.specs.Graph.{Graph, _∈_}
-use Rattle.ways.specs.Chain.{hops}
+use Rattle.ways.specs.Chain.{hops, Chain}
 use Rattle.ways.specs.Listing.{ways, listing}
 use Rattle.ways.specs.Records.{recordOf, chainOf, Fits, Shaped, cellsOf, roomOf, written, sameCells, isRecordIn}
 use Rattle.ways.proofs.Way.{Way, ends, goes, way-from}
-use Rattle.ways.proofs.Listed.{Passing, listed}
+use Rattle.ways.proofs.Listed.{Passing, listed, exact}
 
 -- ways and chains fit
 pub length-hops : (c : List ℕ) → 1 ≤ length c → suc (hops c) ≡ length c
@@ -172,9 +172,17 @@ isRecordIn-iff size L cells f = (λ e. to (isRecordIn-true size L cells e), λ r
         let h = f (r .0) (r .1) in
         (subst (λ d. Shaped size d) (sym (r .2)) (shaped-recordOf size (r .0) h), Memᴰ·cast (ap chainOf (r .2) ∙ chainOf-recordOf size (r .0) (h .some)) (r .1))
 
--- a bookmark is refused by 17's rule only: it is the record of what stands in the listing, or it is not
-pub isRecordIn-listed : (g : Graph) (s t k size : ℕ) → k + 2 ≤ size → (cells : List ℕ) → (isRecordIn size (listing g s t k) cells ≡ true) ↔ (Shaped size cells × Passing g s t k (chainOf cells))
-isRecordIn-listed g s t k size h cells =
-    let r = isRecordIn-iff size (listing g s t k) cells (listing-fits g s t k size h) in
-    let e = listed g s t k (chainOf cells) in
+-- a bookmark is refused by 17's rule only: it is the record of one of those that `Is` says, or it is not
+pub isRecordIn-just : (Is : List ℕ → Type 0) (size : ℕ) (L : List (List ℕ)) → ((c : List ℕ) → c ∈ L → Fits size c) → ((c : List ℕ) → c ∈ L ↔ Is c) → (cells : List ℕ) → (isRecordIn size L cells ≡ true) ↔ (Shaped size cells × Is (chainOf cells))
+isRecordIn-just Is size L f just cells =
+    let r = isRecordIn-iff size L cells f in
+    let e = just (chainOf cells) in
     ((λ i. let q = r .0 i in (q .0, e .0 (q .1))), (λ q. r .1 (q .0, e .1 (q .1))))
+
+-- of what stands in the listing, whether From is To or not; and of a chain where they differ
+module _ (g : Graph) (s t k size : ℕ) where
+  pub isRecordIn-listed : k + 2 ≤ size → (cells : List ℕ) → (isRecordIn size (listing g s t k) cells ≡ true) ↔ (Shaped size cells × Passing g s t k (chainOf cells))
+  isRecordIn-listed h = isRecordIn-just (Passing g s t k) size (listing g s t k) (listing-fits g s t k size h) (listed g s t k)
+
+  pub isRecordIn-chain : s ≢ t → k + 2 ≤ size → (cells : List ℕ) → (isRecordIn size (listing g s t k) cells ≡ true) ↔ (Shaped size cells × Chain g s t k (chainOf cells))
+  isRecordIn-chain ne h = isRecordIn-just (Chain g s t k) size (listing g s t k) (listing-fits g s t k size h) (exact g s t k ne)

@@ -1,6 +1,7 @@
 -- `rings` holds every ring and nothing else, in dictionary order, and no other list does; it is what the search lists where From is To.
 use mathlib.Core.Path.{_≡_, refl, sym, subst}
 use mathlib.Core.Logic.{_↔_}
+use mathlib.Core.Bool.{true}
 use mathlib.Core.List.{List, [], _∷_, _++_, dropLast, List·Memᴰ·head, List·Memᴰ·not-nil, List·Memᴰ·eq-of-singleton, Memᴰ·cast}
 use Prim.Native.Nat.{ℕ, _+_, _≤_, _<_}
 use native.Mathlib.Omega.{arith}
@@ -9,14 +10,14 @@ use Rattle.ways.specs.Graph.{Graph, _∈_, keep}
 use Rattle.ways.specs.Chain.{Distinct, hops}
 use Rattle.ways.specs.Order.{Before, Rising}
 use Rattle.ways.specs.Listing.{listing}
-use Rattle.ways.specs.Records.{Fits}
+use Rattle.ways.specs.Records.{chainOf, Fits, Shaped, isRecordIn}
 use Rattle.ways.specs.Ring.{others, Ring, twoHops, rings}
 use Rattle.ways.proofs.Members.{keep-from, keep-in, keep-all, nobody}
 use Rattle.ways.proofs.Cut.{last-behind, distinct-left, distinct-apart, distinct-append}
 use Rattle.ways.proofs.Listed.{last-cons, Passing, listed, passing-no-beginning}
 use Rattle.ways.proofs.Rising.{one-list, rising-keep}
 use Rattle.ways.proofs.Ordered.{before-asym, ordered, rising-once}
-use Rattle.ways.proofs.Records.{listing-fits}
+use Rattle.ways.proofs.Records.{listing-fits, isRecordIn-just}
 
 module _ (g : Graph) (p k : ℕ) where
   -- a ring comes back to p, and what does so after more than one hop is a ring
@@ -56,6 +57,10 @@ module _ (g : Graph) (p k : ℕ) where
   -- a ring has a record
   pub rings-fits : (size : ℕ) → k + 2 ≤ size → (c : List ℕ) → c ∈ rings g p k → Fits size c
   rings-fits size h c m = listing-fits g p p k size h c (rings-within m)
+
+  -- a bookmark is the record of a ring, or it is not
+  pub isRecordIn-ring : (size : ℕ) → k + 2 ≤ size → (cells : List ℕ) → (isRecordIn size (rings g p k) cells ≡ true) ↔ (Shaped size cells × Ring g p k (chainOf cells))
+  isRecordIn-ring size h = isRecordIn-just (Ring g p k) size (rings g p k) (rings-fits size h) rings-exact
 
   -- no ring is a beginning of another
   pub ring-no-beginning : (c d : List ℕ) → Ring g p k c → Ring g p k (c ++ d) → d ≡ []
