@@ -1,6 +1,6 @@
 -- The customer's three demands, one statement each. Each of the customer's sentences stands word for word above the one field that says it; the first two
--- of demand 3 say what is given, which is a `Run`. Demands 2 and 3 are said of any listing, then of the chains and of the rings. Fields that no sentence stands above say more: what follows, what the operations write, and the
--- same after bookmarks and of held listings. Definitions only; proofs/Demands proves them.
+-- of demand 3 say what is given, which is a `Run`. Demands 2 and 3 are said of any listing, then of the chains and of the rings. Fields that no sentence
+-- stands above say more: what follows, what the operations write, and the same after bookmarks and of held listings. Definitions only; proofs/Demands proves them.
 use mathlib.Core.Path.{_≡_}
 use mathlib.Core.Logic.{_≢_, _↔_, _⊎_}
 use mathlib.Core.Bool.{true}

@@ -1,6 +1,6 @@
 -- The demands at the C door: what the one number tells that each exported function answers. Definitions only.
--- The promises of `kin_portion`, `kin_rings` and `kin_join` (outside, specs/) hold the promise of the operation behind them, of the same cells, and so does that of
--- `kin_held`, by `kinHeldMoves`: so demands 2 and 3, which speak of such calls, hold of theirs, and count and ended are read off the number.
+-- The promises of `kin_portion`, `kin_rings` and `kin_join` (outside, specs/) hold the promise of the operation behind them, of the same cells, and so does
+-- that of `kin_held`, by `kinHeldMoves`: so demands 2 and 3, which speak of such calls, hold of theirs, and count and ended are read off the number.
 use mathlib.Core.Path.{_≡_}
 use mathlib.Core.Logic.{_≢_, _↔_}
 use mathlib.Core.Bool.{Bool, true}

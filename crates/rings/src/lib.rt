@@ -1,4 +1,4 @@
-// The rings: every way out from a person and back to the same person, in portions.
+// The rings: every way from a person back to that person that passes nobody twice, in portions.
 //
 // The public face of the search where From and To are one person. It refuses by number, in order: the file, the question, with 21 in 11's
 // place, the output, the bookmark; a refusal changes no cell.
