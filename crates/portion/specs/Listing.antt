@@ -40,6 +40,10 @@ endedFor file q start out = endedOf (listingFor file q) start out
 abbrev pub Portioned : List ℕ → Question → Start → List ℕ → List ℕ → code.Answer → Type 0
 Portioned file q start out out′ answer = PortionOf (askedFault file q) (listingFor file q) start out out′ answer
 
+-- a run of calls on one file and question, from a start on
+abbrev pub Run : List ℕ → Question → Start → List any.Call → Type 0
+Run file q start calls = any.Run (askedFault file q) (listingFor file q) start calls
+
 -- demand 3: from a fresh start the whole listing is left
 abbrev pub LaidEndToEnd : List ℕ → Question → List any.Call → Type 0
 LaidEndToEnd file q calls = any.Laid (listingFor file q) calls
