@@ -29,6 +29,7 @@ pub record RingPath (file : List ℕ) (q : Question) (c : List ℕ) : Type 0 whe
   pub some : 2 ≤ hops c
   pub few : hops c ≤ q .hops
   pub first : First (q .from) c
+  -- "A record repeats the person at its end."
   pub last : Last (q .from) c
   pub apart : ¬ (q .from ∈ others c)
   pub different : Distinct (others c)
