@@ -22,7 +22,7 @@ use Rattle.rings.specs.Rings.{ringsFor, ringsFault, ringsNumbers}
 
 module _ (file : List ℕ) (q : Question) where
   module _ (asked : ringsAskedFault file q ≡ sound) where
-    pub rows : (p : ℕ) → Rising _<_ (next file q p)
+    rows : (p : ℕ) → Rising _<_ (next file q p)
     rows = next-rising (wanted-answerable file q wanted.the-variants.Rings asked .rules) q
 
     pub rings-listing : Listing (ringsFor file q)

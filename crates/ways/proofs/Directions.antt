@@ -7,10 +7,9 @@ use native.Mathlib.Omega.{arith}
 use lib.ListN.{length, length-append, length-reverse}
 use Rattle.ways.specs.Graph.{Graph, _∈_}
 use Rattle.ways.specs.Chain.{Last, Linked, Distinct, hops}
-use Rattle.ways.specs.Ring.{others, Ring, rings}
+use Rattle.ways.specs.Ring.{others, Ring}
 use Rattle.ways.proofs.Cut.{last-behind, last-snoc, distinct-append}
 use Rattle.ways.proofs.Listed.{last-in}
-use Rattle.ways.proofs.Rings.{rings-exact}
 
 -- a list turned round: the same members, nobody twice, and the first is last
 module _ {A : Type 0} where
@@ -97,7 +96,3 @@ module _ {g : Graph} {p k : ℕ} where
       one [] e = absurd (omega arith)
       one (x ∷ []) e = refl
       one (x ∷ y ∷ m) e = absurd (omega arith)
-
--- so of a ring that is listed the other direction is listed too, as another one
-pub both-directions : (g : Graph) (p k : ℕ) (c : List ℕ) → c ∈ rings g p k → Linked g (reverse c) → 3 ≤ hops c → (reverse c ∈ rings g p k) × (reverse c ≢ c)
-both-directions g p k c m linked three = let h = rings-exact g p k c .0 m in (rings-exact g p k (reverse c) .1 (ring-reversed c h linked), ring-other c h three)
