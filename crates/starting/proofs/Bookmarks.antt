@@ -16,7 +16,7 @@ use Rattle.ways.specs.Chain.{Last, Linked, Distinct, hops}
 use Rattle.ways.specs.Listing.{listing}
 use Rattle.ways.specs.Records.{Shaped, chainOf, isRecordIn}
 use Rattle.ways.proofs.Members.{among-true, mem-among, among-false, out-among}
-use Rattle.ways.proofs.Listed.{Passing, last-some}
+use Rattle.ways.proofs.Listed.{Listable, last-some}
 use Rattle.ways.proofs.Records.{isRecordIn-listed}
 use Rattle.starting.specs.Bookmark.{runs, leadsOn, zeros, isBookmark}
 
@@ -100,7 +100,7 @@ module _ (g : Graph) (s t k size : ℕ) (h : k + 2 ≤ size) (cells : List ℕ) 
   others = slice 2 (hop + 2) cells
 
   -- a bookmark that passes the test is a record, of one that is listed
-  test-holds : isBookmark size g s t k cells ≡ true → Shaped size cells × Passing g s t k (chainOf cells)
+  test-holds : isBookmark size g s t k cells ≡ true → Shaped size cells × Listable g s t k (chainOf cells)
   unfolding isBookmark hop others
   test-holds e =
       let blank = halves (eqb (length cells) size && within 1 k hop && eqb (getD cells 1 0) s && leadsOn g s t others) (zeros (drop (hop + 2) cells)) e in
@@ -125,19 +125,19 @@ module _ (g : Graph) (s t k size : ℕ) (h : k + 2 ≤ size) (cells : List ℕ) 
       )
 
   -- and a record of one that is listed passes it
-  holds-test : Shaped size cells → Passing g s t k (chainOf cells) → isBookmark size g s t k cells ≡ true
+  holds-test : Shaped size cells → Listable g s t k (chainOf cells) → isBookmark size g s t k cells ≡ true
   unfolding isBookmark hop others
-  holds-test shape passing =
+  holds-test shape stands =
       let hopped : hops (chainOf cells) ≡ hop = chain-hops cells (omega (arith, shape .room, shape .whole)) in
       let persons : chainOf cells ≡ getD cells 1 0 ∷ others = chain-cells cells (omega (arith, shape .room, shape .whole)) in
-      let first : getD cells 1 0 ≡ s = rw persons at (passing .first) in
-      let last : Last t others = rw persons at (passing .last) in
-      let linked : Linked g (s ∷ others) = subst (λ (x : ℕ). Linked g (x ∷ others)) first (rw persons at (passing .linked)) in
-      let once : Distinct others = rw persons at (passing .once) in
-      let apart : s ≢ t → ¬ (s ∈ others) = rw persons at (passing .apart) in
+      let first : getD cells 1 0 ≡ s = rw persons at (stands .first) in
+      let last : Last t others = rw persons at (stands .last) in
+      let linked : Linked g (s ∷ others) = subst (λ (x : ℕ). Linked g (x ∷ others)) first (rw persons at (stands .linked)) in
+      let once : Distinct others = rw persons at (stands .once) in
+      let apart : s ≢ t → ¬ (s ∈ others) = rw persons at (stands .apart) in
       let long : length others ≡ hop = sym (ap hops persons) ∙ hopped in
       let low : 1 ≤ hop = omega (arith, last-some t others last) in
-      let high : hop ≤ k = omega (arith, passing .few) in
+      let high : hop ≤ k = omega (arith, stands .few) in
       rw (eq-eqb (length cells) size (shape .whole), le-leb 1 hop low, le-leb hop k high, eq-eqb (getD cells 1 0) s first, holds-leads-on g s t others last linked once apart, shape .zeros)
       (zeros-replicate (size - (hop + 2)))
 

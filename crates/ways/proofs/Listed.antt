@@ -68,7 +68,7 @@ rest-way {t = t} (suc k) p seen (v ∷ q ∷ w) r =
     other e = r .once .0 (Memᴰ·cast e (last-in (q ∷ w) (r .last)))
 
 -- what stands in `listing`, whether From is To or not: nobody behind the first comes twice, and the first comes again only where it is To
-pub record Passing (g : Graph) (s t k : ℕ) (c : List ℕ) : Type 0 where
+pub record Listable (g : Graph) (s t k : ℕ) (c : List ℕ) : Type 0 where
   pub first : First s c
   pub last : Last t (behind c)
   pub linked : Linked g c
@@ -76,34 +76,34 @@ pub record Passing (g : Graph) (s t k : ℕ) (c : List ℕ) : Type 0 where
   pub apart : s ≢ t → ¬ (s ∈ behind c)
   pub few : hops c ≤ k
 
-pub listed : (g : Graph) (s t k : ℕ) (c : List ℕ) → c ∈ listing g s t k ↔ Passing g s t k c
+pub listed : (g : Graph) (s t k : ℕ) (c : List ℕ) → c ∈ listing g s t k ↔ Listable g s t k c
 unfolding listing
 listed g s t k c = (λ m. to (Memᴰ·of-map (_∷_ s) (ways g t k (s ∷ []) s) m), from c)
   where
-    to : (w : List ℕ) × (w ∈ ways g t k (s ∷ []) s) × (s ∷ w ≡ c) → Passing g s t k c
+    to : (w : List ℕ) × (w ∈ ways g t k (s ∷ []) s) × (s ∷ w ≡ c) → Listable g s t k c
     to r =
         let h = way-rest (way-from g t k s (s ∷ []) (r .1)) in
-        subst (λ c. Passing g s t k c) (r .2) (record { first = refl; last = h .last; linked = h .linked; once = h .once; apart = λ n a. h .apart s a n (List·Memᴰ·head refl); few = h .few })
+        subst (λ c. Listable g s t k c) (r .2) (record { first = refl; last = h .last; linked = h .linked; once = h .once; apart = λ n a. h .apart s a n (List·Memᴰ·head refl); few = h .few })
 
-    from : (c : List ℕ) → Passing g s t k c → c ∈ listing g s t k
+    from : (c : List ℕ) → Listable g s t k c → c ∈ listing g s t k
     from [] h = absurd (h .first)
     from (p ∷ w) h =
         Memᴰ·cast (ap (λ x. x ∷ w) (h .first)) (Memᴰ·map (_∷_ s) (way-in (rest-way k s (s ∷ []) w
         (record { linked = subst (λ x. Linked g (x ∷ w)) (h .first) (h .linked); last = h .last; once = h .once; apart = λ x a n j. let e = List·Memᴰ·eq-of-singleton j in h .apart (λ i. n (e ∙ i)) (Memᴰ·cast (sym e) a); few = h .few }))))
 
 -- where From is not To, these are the chains
-pub passing-chain : (g : Graph) (s t k : ℕ) → s ≢ t → (c : List ℕ) → Passing g s t k c → Chain g s t k c
-passing-chain g s t k ne [] h = absurd (h .first)
-passing-chain g s t k ne (p ∷ w) h = record { first = h .first; last = last-cons t p w (h .last); linked = h .linked; once = (λ a. h .apart ne (Memᴰ·cast (sym (h .first)) a), h .once); some = last-some t w (h .last); few = h .few }
+pub listable-chain : (g : Graph) (s t k : ℕ) → s ≢ t → (c : List ℕ) → Listable g s t k c → Chain g s t k c
+listable-chain g s t k ne [] h = absurd (h .first)
+listable-chain g s t k ne (p ∷ w) h = record { first = h .first; last = last-cons t p w (h .last); linked = h .linked; once = (λ a. h .apart ne (Memᴰ·cast (sym (h .first)) a), h .once); some = last-some t w (h .last); few = h .few }
 
-pub chain-passing : (g : Graph) (s t k : ℕ) (c : List ℕ) → Chain g s t k c → Passing g s t k c
-chain-passing g s t k [] h = absurd (h .first)
-chain-passing g s t k (p ∷ []) h = absurd (omega arith)
-chain-passing g s t k (p ∷ q ∷ w) h = record { first = h .first; last = h .last; linked = h .linked; once = h .once .1; apart = λ n a. h .once .0 (Memᴰ·cast (h .first) a); few = h .few }
+pub chain-listable : (g : Graph) (s t k : ℕ) (c : List ℕ) → Chain g s t k c → Listable g s t k c
+chain-listable g s t k [] h = absurd (h .first)
+chain-listable g s t k (p ∷ []) h = absurd (omega arith)
+chain-listable g s t k (p ∷ q ∷ w) h = record { first = h .first; last = h .last; linked = h .linked; once = h .once .1; apart = λ n a. h .once .0 (Memᴰ·cast (h .first) a); few = h .few }
 
 -- exact: in the listing if and only if a chain
 pub exact : (g : Graph) (s t k : ℕ) → s ≢ t → (c : List ℕ) → c ∈ listing g s t k ↔ Chain g s t k c
-exact g s t k ne c = let l = listed g s t k c in (λ m. passing-chain g s t k ne c (l .0 m), λ h. l .1 (chain-passing g s t k c h))
+exact g s t k ne c = let l = listed g s t k c in (λ m. listable-chain g s t k ne c (l .0 m), λ h. l .1 (chain-listable g s t k c h))
 
 -- no person has a chain to the same person
 pub no-chain : (g : Graph) (s k : ℕ) (c : List ℕ) → ¬ Chain g s s k c
@@ -112,11 +112,11 @@ no-chain g s k (p ∷ []) h = omega arith
 no-chain g s k (p ∷ q ∷ c) h = h .once .0 (Memᴰ·cast (h .first) (last-in (q ∷ c) (h .last)))
 
 -- nothing that stands in the listing is a beginning of another
-pub passing-no-beginning : (g : Graph) (s t k : ℕ) (c d : List ℕ) → Passing g s t k c → Passing g s t k (c ++ d) → d ≡ []
-passing-no-beginning g s t k c [] h i = refl
-passing-no-beginning g s t k [] (x ∷ d) h i = absurd (h .first)
-passing-no-beginning g s t k (p ∷ w) (x ∷ d) h i = absurd (distinct-apart (x ∷ d) (last-in w (h .last)) (i .once) (last-in (x ∷ d) (last-right t x w d (i .last))))
+pub listable-no-beginning : (g : Graph) (s t k : ℕ) (c d : List ℕ) → Listable g s t k c → Listable g s t k (c ++ d) → d ≡ []
+listable-no-beginning g s t k c [] h i = refl
+listable-no-beginning g s t k [] (x ∷ d) h i = absurd (h .first)
+listable-no-beginning g s t k (p ∷ w) (x ∷ d) h i = absurd (distinct-apart (x ∷ d) (last-in w (h .last)) (i .once) (last-in (x ∷ d) (last-right t x w d (i .last))))
 
 -- "No chain is a beginning of another."
 pub no-beginning : (g : Graph) (s t k : ℕ) (c d : List ℕ) → Chain g s t k c → Chain g s t k (c ++ d) → d ≡ []
-no-beginning g s t k c d h i = passing-no-beginning g s t k c d (chain-passing g s t k c h) (chain-passing g s t k (c ++ d) i)
+no-beginning g s t k c d h i = listable-no-beginning g s t k c d (chain-listable g s t k c h) (chain-listable g s t k (c ++ d) i)

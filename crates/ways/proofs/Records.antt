@@ -15,7 +15,7 @@ use Rattle.ways.specs.Chain.{hops, Chain}
 use Rattle.ways.specs.Listing.{ways, listing}
 use Rattle.ways.specs.Records.{recordOf, chainOf, Fits, Shaped, cellsOf, roomOf, written, sameCells, isRecordIn}
 use Rattle.ways.proofs.Way.{Way, ends, goes, way-from}
-use Rattle.ways.proofs.Listed.{Passing, listed, exact}
+use Rattle.ways.proofs.Listed.{Listable, listed, exact}
 
 -- ways and chains fit
 pub length-hops : (c : List ℕ) → 1 ≤ length c → suc (hops c) ≡ length c
@@ -181,8 +181,8 @@ isRecordIn-just Is size L f just cells =
 
 -- of what stands in the listing, whether From is To or not; and of a chain where they differ
 module _ (g : Graph) (s t k size : ℕ) where
-  pub isRecordIn-listed : k + 2 ≤ size → (cells : List ℕ) → (isRecordIn size (listing g s t k) cells ≡ true) ↔ (Shaped size cells × Passing g s t k (chainOf cells))
-  isRecordIn-listed h = isRecordIn-just (Passing g s t k) size (listing g s t k) (listing-fits g s t k size h) (listed g s t k)
+  pub isRecordIn-listed : k + 2 ≤ size → (cells : List ℕ) → (isRecordIn size (listing g s t k) cells ≡ true) ↔ (Shaped size cells × Listable g s t k (chainOf cells))
+  isRecordIn-listed h = isRecordIn-just (Listable g s t k) size (listing g s t k) (listing-fits g s t k size h) (listed g s t k)
 
   pub isRecordIn-chain : s ≢ t → k + 2 ≤ size → (cells : List ℕ) → (isRecordIn size (listing g s t k) cells ≡ true) ↔ (Shaped size cells × Chain g s t k (chainOf cells))
   isRecordIn-chain ne h = isRecordIn-just (Chain g s t k) size (listing g s t k) (listing-fits g s t k size h) (exact g s t k ne)

@@ -14,25 +14,25 @@ use Rattle.ways.specs.Records.{chainOf, Fits, Shaped, isRecordIn}
 use Rattle.ways.specs.Ring.{others, Ring, twoHops, rings}
 use Rattle.ways.proofs.Members.{keep-from, keep-in, keep-all, nobody}
 use Rattle.ways.proofs.Cut.{last-behind, distinct-left, distinct-apart, distinct-append}
-use Rattle.ways.proofs.Listed.{last-cons, Passing, listed, passing-no-beginning}
+use Rattle.ways.proofs.Listed.{last-cons, Listable, listed, listable-no-beginning}
 use Rattle.ways.proofs.Rising.{one-list, rising-keep}
 use Rattle.ways.proofs.Ordered.{before-asym, ordered, rising-once}
 use Rattle.ways.proofs.Records.{listing-fits, isRecordIn-just}
 
 module _ (g : Graph) (p k : ℕ) where
   -- a ring comes back to p, and what does so after more than one hop is a ring
-  pub ring-passing : (c : List ℕ) → Ring g p k c → Passing g p p k c
-  ring-passing [] h = absurd (h .first)
-  ring-passing (x ∷ []) h = absurd (omega arith)
-  ring-passing (x ∷ y ∷ w) h =
+  pub ring-listable : (c : List ℕ) → Ring g p k c → Listable g p p k c
+  ring-listable [] h = absurd (h .first)
+  ring-listable (x ∷ []) h = absurd (omega arith)
+  ring-listable (x ∷ y ∷ w) h =
       record { first = h .first; last = h .last; linked = h .linked; once = subst Distinct (sym (last-behind p (y ∷ w) (h .last))) once; apart = λ n. absurd (n refl); few = h .few }
     where
       once : Distinct (others (x ∷ y ∷ w) ++ (p ∷ []))
       once = distinct-append (others (x ∷ y ∷ w)) (p ∷ []) (h .once) (List·Memᴰ·not-nil, tt) (λ z i j. h .apart (Memᴰ·cast (sym (List·Memᴰ·eq-of-singleton j)) i))
 
-  pub passing-ring : (c : List ℕ) → Passing g p p k c → 2 ≤ hops c → Ring g p k c
-  passing-ring [] h two = absurd (h .first)
-  passing-ring (x ∷ w) h two =
+  pub listable-ring : (c : List ℕ) → Listable g p p k c → 2 ≤ hops c → Ring g p k c
+  listable-ring [] h two = absurd (h .first)
+  listable-ring (x ∷ w) h two =
       record { first = h .first; last = last-cons p x w (h .last); linked = h .linked; apart = λ m. distinct-apart (p ∷ []) m once (List·Memᴰ·head refl); once = distinct-left (dropLast w) (p ∷ []) once; some = two; few = h .few }
     where
       once : Distinct (dropLast w ++ (p ∷ []))
@@ -49,10 +49,10 @@ module _ (g : Graph) (p k : ℕ) where
   rings-exact c = (to, from)
     where
       to : c ∈ keep twoHops (listing g p p k) → Ring g p k c
-      to m = let r = keep-from twoHops (listing g p p k) m in passing-ring c (listed g p p k c .0 (r .0)) (leb-true _ (hops c) (r .1))
+      to m = let r = keep-from twoHops (listing g p p k) m in listable-ring c (listed g p p k c .0 (r .0)) (leb-true _ (hops c) (r .1))
 
       from : Ring g p k c → c ∈ keep twoHops (listing g p p k)
-      from h = keep-in twoHops (listed g p p k c .1 (ring-passing c h)) (le-leb 2 (hops c) (h .some))
+      from h = keep-in twoHops (listed g p p k c .1 (ring-listable c h)) (le-leb 2 (hops c) (h .some))
 
   -- a ring has a record
   pub rings-fits : (size : ℕ) → k + 2 ≤ size → (c : List ℕ) → c ∈ rings g p k → Fits size c
@@ -64,14 +64,14 @@ module _ (g : Graph) (p k : ℕ) where
 
   -- no ring is a beginning of another
   pub ring-no-beginning : (c d : List ℕ) → Ring g p k c → Ring g p k (c ++ d) → d ≡ []
-  ring-no-beginning c d h i = passing-no-beginning g p p k c d (ring-passing c h) (ring-passing (c ++ d) i)
+  ring-no-beginning c d h i = listable-no-beginning g p p k c d (ring-listable c h) (ring-listable (c ++ d) i)
 
   -- where nobody has a link to themselves, as in every file that passes, nothing comes back after one hop: the rings are all that comes back
   pub rings-closed : ¬ (p ∈ g p) → rings g p k ≡ listing g p p k
   unfolding rings
   rings-closed n = keep-all twoHops (listing g p p k) (λ c m. le-leb 2 (hops c) (two c (listed g p p k c .0 m)))
     where
-      two : (c : List ℕ) → Passing g p p k c → 2 ≤ hops c
+      two : (c : List ℕ) → Listable g p p k c → 2 ≤ hops c
       two [] h = absurd (h .first)
       two (x ∷ []) h = absurd (h .last)
       two (x ∷ y ∷ []) h = absurd (n (subst (λ z. p ∈ g z) (h .first) (Memᴰ·cast (sym (h .last)) (h .linked .0))))
