@@ -1,9 +1,9 @@
 //! Every graph of four persons and the rings of everybody in it, and as much of five persons as there is time for: fresh with
 //! every room, resumed at every ring, and every bookmark, against brute force.
 //!
-//! Covers: all 2^12 graphs of four persons, each of the four, all hops 1 to 8. For each of these graphs and persons, with a
-//! seeded number of hops: every sequence of up to five persons that begins at the person and goes on to another at every
-//! hop, closed or not, as a bookmark; a part of all others of up to six persons, and of those that begin at somebody else.
+//! Covers: all 2^12 graphs of four persons, each of the four, all hops 1 to 8. For each of these graphs, persons and hops:
+//! every sequence of up to five persons that begins at the person and goes on to another at every hop, closed or not, as a
+//! bookmark; and for one of the hops a part of all others of up to six persons, and of those that begin at somebody else.
 //! All graphs of two and three persons, with every number of hops and every bookmark of up to five persons. Graphs of five
 //! persons by seeded samples, of any density and sparse, and with all links or all but one. With undated links admitted
 //! and left out: all graphs of three persons whose links are missing, undated or dated, with every bookmark of up to four
@@ -139,8 +139,8 @@ fn goes_on(sequence: &[u32]) -> bool {
     sequence.windows(2).all(|hop| hop[0] != hop[1])
 }
 
-/// In every graph of four the sequences of up to five persons that begin at the person and go on at every hop; a part of
-/// all others of up to six persons, and of those that begin at somebody else.
+/// In every graph of four, with every number of hops, the sequences of up to five persons that begin at the person and go
+/// on at every hop; and with one of them a part of all others of up to six persons, and of those that begin at somebody else.
 fn bookmarks_of_four(person: u32) {
     let mut random = Random::of_test(&format!("bookmarks of {person} in every graph of four"));
     let (in_every_graph, mut others): (Vec<_>, Vec<_>) = beginning_at(person, 4, 6)
@@ -151,16 +151,21 @@ fn bookmarks_of_four(person: u32) {
     let parts = rounds(32, 1);
     let mut rings = 0;
     for graph in 0..1 << links_of_graph(4) {
-        let hops = random.between(1, 8) as u32;
-        let asked = Asked::new(graph_of_number(4, graph).bytes(), of(person, hops));
-        let mut bookmarks = in_every_graph.clone();
-        bookmarks.extend(others.iter().skip(random.below(parts)).step_by(parts));
-        let taken = asked.one_ring_after_each(&bookmarks);
-        assert_eq!(taken, asked.rings().len());
-        rings += taken;
+        let asked_more = random.between(1, 8) as u32;
+        let file = graph_of_number(4, graph).bytes();
+        for hops in 1..=8 {
+            let asked = Asked::new(file.clone(), of(person, hops));
+            let mut bookmarks = in_every_graph.clone();
+            if hops == asked_more {
+                bookmarks.extend(others.iter().skip(random.below(parts)).step_by(parts));
+            }
+            let taken = asked.one_ring_after_each(&bookmarks);
+            assert_eq!(taken, asked.rings().len());
+            rings += taken;
+        }
     }
-    // Those of all hops would be 7,680.
-    assert!(rings > 5_000, "{rings}");
+    // Of 3 * 1024 rings of two hops, 6 * 512 of three and 6 * 256 of four, each is taken with its own hops or more.
+    assert_eq!(rings, 3 * 1024 * 7 + 6 * 512 * 6 + 6 * 256 * 5);
 }
 
 #[test]
