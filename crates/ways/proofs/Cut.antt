@@ -68,7 +68,7 @@ module _ {A : Type 0} where
   distinct_right [] m d = d
   distinct_right (x ∷ l) m d = distinct_right l m d.1
 
-  pub distinct_apart : {l : List A} (m : List A) {x : A} → x ∈ l → Distinct (l ++ m) → ¬ (x ∈ m)
+  pub distinct_apart : {x : A} {l : List A} (m : List A) → x ∈ l → Distinct (l ++ m) → ¬ (x ∈ m)
   distinct_apart m (Memᴰ.head {xs = l} e) d i = d.0 (Memᴰ.append_right l (Memᴰ.cast (sym e) i))
   distinct_apart m (Memᴰ.tail j) d i = distinct_apart m j d.1 i
 

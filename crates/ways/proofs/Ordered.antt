@@ -26,6 +26,7 @@ before_trans (same {x = x} e r) (less {y = z} h) = less {x = x} {y = z} (omega a
 before_trans (same e r) (same f q) = same (e ∙ f) (before_trans r q)
 
 pub before_asym : {a b : List ℕ} → Before a b → ¬ Before b a
+before_asym (short {y = y} {b = b}) x4 = elim x4 [ ]
 before_asym (less h) (less i) = omega arith
 before_asym (less h) (same e r) = omega arith
 before_asym (same e r) (less h) = omega arith

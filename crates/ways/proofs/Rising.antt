@@ -75,7 +75,7 @@ module _ {A : Type 0} (R : A → A → Type 0) where
     one_list Is l m r q f h = only l m r q (λ x i. (h x).1 ((f x).0 i)) (λ x i. (f x).1 ((h x).0 i))
 
 -- below x and above x
-pub rising_below : {A : Type 0} (R : A → A → Type 0) {x : A} {lo : List A} (hi : List A) {y : A} → y ∈ lo → Rising R (lo ++ x ∷ hi) → R y x
+pub rising_below : {A : Type 0} (R : A → A → Type 0) {x y : A} {lo : List A} (hi : List A) → y ∈ lo → Rising R (lo ++ x ∷ hi) → R y x
 rising_below R {x} hi (Memᴰ.head {xs = l} e) r = subst (λ z. R z x) (sym e) (r.0 x (Memᴰ.append_right l (Memᴰ.head refl)))
 rising_below R hi (Memᴰ.tail m) r = rising_below R hi m r.1
 
