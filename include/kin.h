@@ -42,7 +42,7 @@
 #include <stddef.h>
 #include <stdint.h>
 
-#define KIN_VERSION "2.1.1"
+#define KIN_VERSION "2.1.0"
 #define KIN_VERSION_MAJOR 2
 #define KIN_VERSION_MINOR 1
 #define KIN_VERSION_PATCH 0

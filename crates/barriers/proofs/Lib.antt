@@ -1,4 +1,3 @@
 -- The laws of barriers that a search cites (Holding), and those of the trail, for this room alone.
-pub mod Unwinding
-mod Firsts
+mod Unwinding
 pub mod Holding

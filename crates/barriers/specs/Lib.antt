@@ -2,4 +2,3 @@
 pub mod Trail
 pub mod Barriers
 pub mod Settling
-pub mod Squeezing

@@ -27,10 +27,7 @@ const PORTION: usize = 4_096;
 
 const CELLS: usize = PORTION * RECORD;
 
-// The bytes of a piece of text. More would be written a little faster to a file, and would take as much more of the stack.
-const TEXT: usize = 8_192;
-
-// Zeros for the input, for the records of a portion and for a piece. The `ensures` gives the length, which lending them as a slice needs.
+// Zeros for the input, and for the records of a portion. The `ensures` gives the length, which lending them as a slice needs.
 fn input_space() -> [u8; LONGEST_INPUT]
     ensures { longest_input ≡ length result }
 {
@@ -41,27 +38,6 @@ fn record_space() -> [u32; CELLS]
     ensures { portion_size * record_size ≡ length result }
 {
     [0; CELLS]
-}
-
-fn text_space() -> [u8; TEXT]
-    ensures { 8192 ≡ length result }
-{
-    [0; TEXT]
-}
-
-// Writes all of the bytes and answers true, or stops at the first write that takes nothing or fails and answers false. What a write leaves is
-// written from where it lies: the library's own function would copy it to another 4,096 bytes of the stack first.
-fn write_all(bytes: &[u8]) -> bool {
-    let mut done = 0;
-    while done < bytes.len() {
-        let rest = &bytes[done..];
-        let put = io::count(libc::write(STDOUT_FILENO, rest), rest);
-        if put == 0 {
-            return false;
-        }
-        done += put;
-    }
-    true
 }
 
 // Piece by piece, until one is empty: then nothing is left.
@@ -75,7 +51,7 @@ fn print(input: &[u8], cells: &mut [u32], out: &mut [u8])
         if bytes == 0 {
             return;
         }
-        if !write_all(&out[..bytes]) {
+        if !io::write_all(STDOUT_FILENO, &out[..bytes]) {
             return;
         }
         let after = piece.progress;
@@ -87,6 +63,6 @@ fn main() {
     let mut input = input_space();
     let length = io::read_full(STDIN_FILENO, &mut input);
     let mut cells = record_space();
-    let mut out = text_space();
+    let mut out = io::large_buffer();
     print(&input[..length], &mut cells, &mut out);
 }

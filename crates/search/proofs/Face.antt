@@ -1,6 +1,6 @@
 -- The face: what it hands down is as the cycle asks, and what comes back is the portion of the listing.
 use mathlib.Core.Path.{◌≡◌, refl, sym, ap, subst, ◌∙◌}
-use mathlib.Core.Bool.{true, cond}
+use mathlib.Core.Bool.{Bool, true, false, cond}
 use mathlib.Core.List.Memᴰ
 use mathlib.Core.List.{List, [], ◌∷◌, map}
 use mathlib.Core.Logic.{⊎_elim}
@@ -22,16 +22,16 @@ use Rattle.ways.proofs.Listed.{last_cons, last_at, way_last}
 use Rattle.ways.proofs.After.{after_all, after_from, after-listing}
 use Rattle.ways.proofs.Portions.{real_chains}
 use Rattle.ways.proofs.Records.{way_some, way_few, listing_fits, chain_of-record_of, length-record_of, is_record_in_true}
-use Rattle.compact.specs.Compact.{graph_of}
+use Rattle.compact.specs.Compact.{persons, graph_of}
+use Rattle.compact.proofs.Marking.{nobody, marked_more}
 use Rattle.pages.specs.Pages.{Page, emits, blank}
 use Rattle.pages.proofs.Recording.{records_first}
 use Rattle.pages.proofs.Handing.{emits-written}
 use Rattle.barriers.proofs.Holding.{fewest_hold}
 use Rattle.search.specs.Face.{mark_of, Asked, Answered}
-use Rattle.search.specs.Chain.{seen_of}
 use Rattle.search.specs.HandingOver.{page}
 use Rattle.search.specs.Bookmarks.{rest_of, onward, Beginning}
-use Rattle.search.specs.Entering.{Ready, GoneThrough}
+use Rattle.search.specs.Entering.{seen_of, Ready, GoneThrough}
 use Rattle.search.specs.Places.{Place}
 use Rattle.search.specs.declared.places.Findings.{Findings}
 use Rattle.search.proofs.Resuming.{onward_loose, onward_tight}
@@ -101,11 +101,13 @@ nothing = record { count = 0; more = 0; trail = 0 }
 
 module _ {rows targets fewest : List ℕ} {from to hops started : ℕ} {bookmark : List ℕ} (k : Asked rows targets fewest from to hops started bookmark) where
   pub list_ready : (out trail : List ℕ)
-      → Ready rows targets bookmark (set blank 1 from) out fewest trail (started_at to started (length out / record_size) hops) from nothing
+      → Ready rows targets bookmark (set (replicate persons false) from true) (set blank 1 from) out fewest trail (started_at to started (length out / record_size) hops) from nothing
   list_ready out trail = record {
     graph = k.graph;
     place = k.source;
-    begun = record { long = refl; blank = λ i l. get_or-set_other blank 1 i from 0 (λ e. omega arith) ∙ zeros i; few = omega arith };
+    marked = rw (seen_first from) (marked_more from k.source nobody);
+    long = refl;
+    blank = λ i l. get_or-set_other blank 1 i from 0 (λ e. omega arith) ∙ zeros i;
     some = k.some;
     short = omega (arith, k.few);
     room = omega arith;
@@ -135,8 +137,8 @@ behind {rows} {targets} {from = from} {to} {hops} {started} {bookmark} k =
 ended_more : (d n : ℕ) → ◌≡◌ {A = ℕ} (cond (ltb d n) 1 0) (cond (leb n d) 0 1)
 ended_more d n = ⊎_elim (λ l. rw (lt-ltb d n l, lt-leb n d l)) (λ l. rw (le-ltb d n l, le-leb n d l)) (lt_or_le d n)
 
-pub list_answered : {rows targets fewest : List ℕ} {from to hops started : ℕ} {bookmark cs' out out' bs bs' ts ts' : List ℕ} {found : Findings} → Asked rows targets fewest from to hops started bookmark
-    → GoneThrough rows targets bookmark (set blank 1 from) cs' out out' bs bs' ts ts' (started_at to started (length out / record_size) hops) from nothing found
+pub list_answered : {rows targets fewest : List ℕ} {from to hops started : ℕ} {bookmark : List ℕ} {ms ms' : List Bool} {cs' out out' bs bs' ts ts' : List ℕ} {found : Findings} → Asked rows targets fewest from to hops started bookmark
+    → GoneThrough rows targets bookmark ms ms' (set blank 1 from) cs' out out' bs bs' ts ts' (started_at to started (length out / record_size) hops) from nothing found
     → Answered rows targets from to hops started bookmark out out' (record { count = found.count; more = found.more })
 list_answered {rows} {targets} {from = from} {to} {hops} {started} {bookmark} {out = out} {out'} {found = found} k s =
     let g = graph_of rows targets in

@@ -1,14 +1,12 @@
 // The search: entering a person, and going through that person's links. It lists the chains of the compact graph in
 // dictionary order, from a bookmark on, as records, until there is no more room, and says whether one more follows. From and To may be one
 // person: then what it lists comes back to that person.
-// One face, `list`, lends barriers and trail down to two functions that call each other in a cycle. What it promises
+// One face, `list`, lends marks, barriers and trail down to two functions that call each other in a cycle. What it promises
 // speaks of the listing alone. Pruning, by the fewest hops at first and by barriers from then on, changes no listing:
 // that is proved; the time it saves is measured.
 ghost use Rattle.search.specs.Face.{Asked, Answered};
 
-mod asking;
 mod bookmark;
-mod ending;
 mod leaving;
 mod places;
 mod records;
@@ -35,16 +33,19 @@ pub fn list(
     requires { Asked rows.now targets.now fewest.now from to hops started bookmark.now }
     ensures { Answered rows.now targets.now from to hops started bookmark.now out.old out.new result }
 {
+    let mut marks = [false; PERSONS];
     let mut barriers = *fewest;
     let mut trail = [0u16; TRAIL];
     let mut chain = [0u32; RECORD];
     let at = from as usize;
     chain[1] = from;
+    marks[at] = true;
     let room = out.len() / RECORD;
     let found = walk::go_through(
         at,
         rows,
         targets,
+        &mut marks,
         &mut barriers,
         &mut chain,
         &mut trail,

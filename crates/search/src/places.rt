@@ -1,9 +1,10 @@
 // Where a search stands, in numbers: the types that its functions hand to each other.
 // They go in small structs with no bool among them: a struct of two numbers goes in registers.
+use compact::PERSONS;
+use ways::HOPS;
 
-// Entries of the trail: enough for every dead region that was measured, since the trail is squeezed (docs/DECISIONS.md). Where it is full all the
-// same no barrier is raised, and a search then takes longer and loses nothing.
-pub const TRAIL: usize = 2_560;
+// Each entry that stands on the trail has raised its person's barrier, and none passes the hops: never too few.
+pub const TRAIL: usize = HOPS * PERSONS;
 
 // What stays the same all through a search: whom the chains lead to, and how many records there is room for.
 #[derive(Drop)]

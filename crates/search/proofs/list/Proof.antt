@@ -6,15 +6,15 @@ use Rattle.search.proofs.list.Tie as tie
 
 go-through-requires : tie.Need-go-through-requires
 go-through-requires c κs =
-    let at-start = c.before.before.before.before.before.before.before in
+    let at-start = c.before.before.before.before.before.before.before.before in
     list_ready at-start.requires _ _
 
 returns : tie.Need-returns
 returns c =
-    let at-start = c.before.before.before.before.before.before.before.before.before.before in
+    let at-start = c.before.before.before.before.before.before.before.before.before.before.before in
     list_answered at-start.requires c.before.before.go-through.ensures
 
 pub list-spec : {M : Type 1} → statement M
 list-spec =
     tie.close
-    (tie.spec (λ c. search rules) go-through-requires (λ c. search rules) returns)
+    (tie.spec (λ c. search rules) (λ c. search rules) go-through-requires (λ c. search rules) returns)

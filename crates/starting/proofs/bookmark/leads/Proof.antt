@@ -1,18 +1,17 @@
 -- `leads` meets its contract: the person's row is gone through, target by target.
 use borrow.Author.Rules.{rules}
-use mathlib.Core.Bool.{false}
 use mathlib.Core.Path.{refl}
 use Prim.Native.Nat.{◌-◌}
 use native.Mathlib.Omega.{arith}
 use Rattle.ways.specs.Graph.{among}
 use Rattle.compact.specs.Compact.{graph_of}
 use Rattle.compact.proofs.Rows.{row_none}
-use Rattle.cells.proofs.Seeking.{Seeking, seek_on, seek_found, seek_end}
+use Rattle.cells.proofs.Seeking.{Seeking, seek_on, seek_found, seek_none}
 use Rattle.starting.proofs.bookmark.leads.Statement.{statement}
 use Rattle.starting.proofs.bookmark.leads.Tie as tie
 
 abbrev invariant-loop : tie.invariant-loop
-invariant-loop starts targets person next from end at₀ at = Seeking next targets (among next (graph_of starts targets person)) at end false
+invariant-loop starts targets person next from end at₀ at = Seeking next targets (among next (graph_of starts targets person)) at end
 
 abbrev decreases-loop : tie.decreases-loop
 decreases-loop starts targets person next from end at₀ at = end - at
@@ -67,7 +66,7 @@ loop-again : tie.Need-loop-preserved invariant-loop decreases-loop
 loop-again c = seek_on c.before.before.before.loop.invariant c.before.before.loop-test.true c.if2.false
 
 returns-3 : tie.Need-returns-3 invariant-loop decreases-loop
-returns-3 c = seek_end c.before.loop.invariant c.loop-test.false
+returns-3 c = seek_none c.before.loop.invariant c.loop-test.false
 
 pub leads-spec : {M : Type 1} → statement M
 leads-spec =
