@@ -48,6 +48,7 @@ up_to bound [] = true
 up_to bound (number ∷ numbers) = cond (leb number bound) (up_to bound numbers) false
 
 pub up_to_bounds : (bound : ℕ) (numbers : List ℕ) → up_to bound numbers ≡ true → {number : ℕ} → number ∈ numbers → number ≤ bound
+up_to_bounds bound [] h {number = number} m = elim m [ ]
 up_to_bounds bound (x ∷ numbers) h {number} m = go (leb x bound) refl h m (λ r i. up_to_bounds bound numbers r i)
   where
     go : (fits : Bool) → leb x bound ≡ fits → cond fits (up_to bound numbers) false ≡ true → number ∈ x ∷ numbers → (up_to bound numbers ≡ true → number ∈ numbers → number ≤ bound) → number ≤ bound
