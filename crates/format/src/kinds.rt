@@ -3,7 +3,7 @@ ghost use Rattle.std.specs.Prelude.{◌≡◌};
 ghost use Rattle.format.specs.Kinds.{class_said, class_of, known};
 
 // A class, or unknown.
-#[derive(Drop)]
+#[derive(Clone, Copy)]
 pub enum Class {
     Of(u8),
     Unknown,

@@ -11,7 +11,7 @@ ghost use Rattle.ways.specs.Sizes.{record_size};
 use ways::RECORD;
 
 // What was handed over: so many chains, and whether there is one more than there is room for (1) or none (0).
-#[derive(Drop)]
+#[derive(Clone, Copy)]
 pub struct HandedOver {
     pub count: usize,
     pub more: usize,

@@ -9,10 +9,7 @@ use Rattle.ways.specs.Sizes.{most_persons, most_links}
 use Rattle.format.specs.Numbers.{within}
 use Rattle.format.specs.Format.{fit}
 use Rattle.format.proofs.Counted.{met, missed}
-use Rattle.format.proofs.header.fit.Statement.{statement}
-use Rattle.format.proofs.header.fit.Tie as tie
-use Rattle.format.proofs.header.fit.Reads as reads
-use Rattle.format.proofs.header.fit.Lts as lts
+use Rattle.format.proofs.header.fit.Goals as goal
 
 two : (c : lts.Joined1 reads.Pre reads.Post) → c.if1.if2 ≡ within 1 most_persons c.before.before.args.counts.persons
 two c = ⊎_elim (λ w. met (le-leb _ _ w.0.taken) w.2) (λ w. missed _ (lt-leb _ _ w.0.left) w.1) c.if1.branch
@@ -20,15 +17,10 @@ two c = ⊎_elim (λ w. met (le-leb _ _ w.0.taken) w.2) (λ w. missed _ (lt-leb 
 three : (c : lts.Joined2 reads.Pre reads.Post) → c.if2.if3 ≡ (c.before.if1.if2 && leb c.before.before.before.args.counts.links most_links)
 three c = ⊎_elim (λ w. met w.0.taken w.2) (λ w. missed _ w.0.left w.1) c.if2.branch
 
-returns : tie.Need-returns
+pub returns-then-counts-le-LINKS : goal.returns-then-counts-le-LINKS
 unfolding fit
-returns c = rw (le-leb 0 c.before.before.before.before.before.args.counts.links (omega arith), le-leb 0 c.before.before.before.before.before.args.counts.feeds (omega arith), ← two c.before.before.before, ← three c.before.before, c.before.if3.true)
+returns-then-counts-le-LINKS c = rw (le-leb 0 c.args.counts.links (omega arith), le-leb 0 c.args.counts.feeds (omega arith), ← two c.before.before.before, ← three c.before.before, c.if-counts-le-LINKS.true)
 
-returns-2 : tie.Need-returns-2
+pub returns-else-counts-le-LINKS : goal.returns-else-counts-le-LINKS
 unfolding fit
-returns-2 c = rw (le-leb 0 c.before.before.before.before.args.counts.links (omega arith), ← two c.before.before, ← three c.before, c.if3.false)
-
-pub fit_spec : {M : Type 1} → statement M
-fit_spec =
-    tie.close
-    (tie.spec returns returns-2)
+returns-else-counts-le-LINKS c = rw (le-leb 0 c.args.counts.links (omega arith), ← two c.before.before, ← three c.before, c.if-counts-le-LINKS.false)

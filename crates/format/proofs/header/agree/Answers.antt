@@ -6,10 +6,7 @@ use lib.Dec.{eqb}
 use borrow.Author.Tests.{eq-eqb, ne_eqb}
 use Rattle.format.specs.Format.{agree}
 use Rattle.format.proofs.Counted.{met, missed}
-use Rattle.format.proofs.header.agree.Statement.{statement}
-use Rattle.format.proofs.header.agree.Tie as tie
-use Rattle.format.proofs.header.agree.Reads as reads
-use Rattle.format.proofs.header.agree.Lts as lts
+use Rattle.format.proofs.header.agree.Goals as goal
 
 two : (c : lts.Joined1 reads.Pre reads.Post)
     → c.if1.if2 ≡ (eqb c.before.before.before.args.stated.feeds c.before.before.before.args.derived.feeds && eqb c.before.before.before.args.stated.rows c.before.before.before.args.derived.rows)
@@ -21,15 +18,10 @@ three c = ⊎_elim (λ w. met w.0.taken w.3) (λ w. missed _ w.0.left w.1) c.if2
 four : (c : lts.Joined3 reads.Pre reads.Post) → c.if3.if4 ≡ (c.before.if2.if3 && eqb c.before.before.before.before.before.args.stated.length c.before.before.before.before.before.args.derived.length)
 four c = ⊎_elim (λ w. met w.0.taken w.3) (λ w. missed _ w.0.left w.1) c.if3.branch
 
-returns : tie.Need-returns
+pub returns-then-stated-derived-4 : goal.returns-then-stated-derived-4
 unfolding agree
-returns c = rw (← two c.before.before.before.before, ← three c.before.before.before, ← four c.before.before, c.before.if4.true)
+returns-then-stated-derived-4 c = rw (← two c.before.before.before.before, ← three c.before.before.before, ← four c.before.before, c.if-stated-derived-4.true)
 
-returns-2 : tie.Need-returns-2
+pub returns-else-stated-derived-4 : goal.returns-else-stated-derived-4
 unfolding agree
-returns-2 c = rw (← two c.before.before.before, ← three c.before.before, ← four c.before, c.if4.false)
-
-pub agree-spec : {M : Type 1} → statement M
-agree-spec =
-    tie.close
-    (tie.spec returns returns-2)
+returns-else-stated-derived-4 c = rw (← two c.before.before.before, ← three c.before.before, ← four c.before, c.if-stated-derived-4.false)
