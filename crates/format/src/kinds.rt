@@ -10,6 +10,7 @@ pub enum Class {
 }
 
 // Decided by ranges of the kind number: a class, or unknown.
+#[tactic(auto, unfolding(crate::specs::Kinds::class_of))]
 pub fn class_of(kind: u8) -> Class
     ensures { class_said result ≡ class_of kind }
 {
