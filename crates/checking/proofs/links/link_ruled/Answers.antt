@@ -6,12 +6,7 @@ use lib.Dec.{eqb, ltb}
 use borrow.Author.Tests.{lt-ltb, le-ltb}
 use Rattle.format.proofs.Counted.{met, missed}
 use Rattle.checking.specs.Links.{rises, link_ruled}
-use borrow.Author.Rules.{rules}
-use Rattle.checking.proofs.links.link_ruled.Statement.{statement}
-use Rattle.checking.proofs.links.link_ruled.Tie as tie
-use Rattle.checking.proofs.links.link_ruled.Reads as reads
-use Rattle.checking.proofs.links.link_ruled.Lts as lts
-use Rattle.checking.proofs.links.rises.Reads as rises-reads
+use Rattle.checking.proofs.links.link_ruled.Goals as goal
 
 two : (c : lts.Joined1 (rises-reads.Asked, rises-reads.Learnt) reads.Pre reads.Post)
     → c.if1.if2 ≡ (ltb c.before.before.before.before.args.link.target c.before.before.before.before.args.counts.persons && not (eqb c.before.before.before.before.args.link.target c.before.before.before.before.args.owner))
@@ -25,15 +20,10 @@ four : (c : lts.Joined3 (rises-reads.Asked, rises-reads.Learnt) reads.Pre reads.
     → c.if3.if4 ≡ (c.before.if2.if3 && ltb c.before.before.before.before.before.before.args.link.feed c.before.before.before.before.before.before.args.counts.feeds)
 four c = ⊎_elim (λ w. met w.0.taken w.2) (λ w. missed _ w.0.left w.1) c.if3.branch
 
-returns : tie.Need-returns
+pub returns-then-feed-counts : goal.returns-then-feed-counts
 unfolding link_ruled
-returns c = rw (← two c.before.before.before.before, ← three c.before.before.before, ← four c.before.before, c.before.if4.true)
+returns-then-feed-counts c = rw (← two c.before.before.before.before, ← three c.before.before.before, ← four c.before.before, c.if-feed-counts.true)
 
-returns-2 : tie.Need-returns-2
+pub returns-else-feed-counts : goal.returns-else-feed-counts
 unfolding link_ruled
-returns-2 c = rw (← two c.before.before.before, ← three c.before.before, ← four c.before, c.if4.false)
-
-pub link-ruled-spec : {M : Type 1} → statement M
-link-ruled-spec =
-    tie.close
-    (tie.spec (λ c. search rules) (λ c. search rules) (λ c κs. search rules) returns returns-2)
+returns-else-feed-counts c = rw (← two c.before.before.before, ← three c.before.before, ← four c.before, c.if-feed-counts.false)
