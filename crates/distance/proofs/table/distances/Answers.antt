@@ -1,6 +1,5 @@
 -- `distances` meets its contract. The loop's invariant: the rounds so far have settled everybody of at most so many hops.
 use mathlib.Core.Path.{sym}
-use Prim.Native.Nat.{◌-◌}
 use native.Mathlib.Omega.{arith}
 use Rattle.distance.proofs.Settled.{rounds_start, rounds_next, rounds_calm, rounds_end}
 use Rattle.distance.proofs.table.distances.Goals as goal

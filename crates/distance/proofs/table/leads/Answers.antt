@@ -1,6 +1,6 @@
 -- `leads` meets its contract. The loop's invariant: what is still to be looked at decides.
 use mathlib.Core.Path.{refl}
-use Prim.Native.Nat.{◌+◌, ◌-◌}
+use Prim.Native.Nat.{◌+◌}
 use native.Mathlib.Omega.{arith}
 use Rattle.distance.proofs.Stepping.{row_ends, passing_starts, passing_person, passing_finds, passing_on, passing_ends}
 use Rattle.distance.proofs.table.leads.Goals as goal

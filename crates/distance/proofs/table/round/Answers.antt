@@ -1,10 +1,9 @@
 -- `round` meets its contract. The loop's invariant: the persons so far are settled, the others are as they were.
 use mathlib.Core.Path.{sym, ◌∙◌}
-use mathlib.Core.Logic.{⊎_elim}
-use Prim.Native.Nat.{◌-◌}
 use native.Mathlib.Omega.{arith}
 use Rattle.distance.proofs.Stepping.{stepping_starts, stepping_looks, stepping_known, stepping_left, stepping_added, stepping_ends}
 use Rattle.distance.proofs.table.round.Goals as goal
+use Rattle.distance.proofs.table.round.Goals.{then-cells-person+then-leads, then-cells-person+else-leads, else-cells-person}
 
 pub loop-person-init : goal.loop-person-init
 loop-person-init c = stepping_starts c.requires
@@ -34,12 +33,11 @@ loop-person-smaller c = omega (arith, c.loop-person-test.true)
 
 pub loop-person-preserved : goal.loop-person-preserved
 loop-person-preserved c =
-    ⊎_elim
-    (λ w. stepping_added c.requires c.loop-person.invariant c.loop-person-test.true w.0.taken w.2.ensures w.3.taken w.4 w.5)
-    (⊎_elim
-    (λ w. stepping_left c.requires c.loop-person.invariant c.loop-person-test.true w.0.taken w.2.ensures w.3.left w.4 w.5)
-    (λ w. stepping_known c.requires c.loop-person.invariant c.loop-person-test.true w.0.left w.1 w.2))
-    c.if-cells-person.branch
+    elim c.if-cells-person.branch [
+      | then-cells-person+then-leads w ↦ stepping_added c.requires c.loop-person.invariant c.loop-person-test.true w.if-cells-person.true w.leads.ensures w.if-leads.true w.cells-is w.added-is
+      | then-cells-person+else-leads w ↦ stepping_left c.requires c.loop-person.invariant c.loop-person-test.true w.if-cells-person.true w.leads.ensures w.if-leads.false w.cells-is w.added-is
+      | else-cells-person w ↦ stepping_known c.requires c.loop-person.invariant c.loop-person-test.true w.if-cells-person.false w.cells-is w.added-is
+    ]
 
 pub shape_of-cells : goal.shape_of-cells
 shape_of-cells c = c.loop-person.invariant.size ∙ sym c.requires.size
