@@ -46,9 +46,9 @@ slice_bounds-result-end-2 c =
 
 pub returns : goal.returns
 returns c =
-    let at_entry_lem = c.entry in
+    let at_entry = c.entry in
     let e = sym c.check.ensures ∙ ap verdict_said c.in-Passed.is in
     let inside = lt-ltb c.args.person _ c.if-persons-person.false in
-    let start = offset_is at_entry_lem.result c.counts-counts.ensures c.link_offset-start.ensures in
+    let start = offset_is at_entry.result c.counts-counts.ensures c.link_offset-start.ensures in
     let end = offset_is c.entry-2.result c.counts-counts.ensures c.link_offset-end.ensures in
-    record { bytes = rw (e, inside, ← at_entry_lem.ensures, ← c.entry-2.ensures, ← start, ← end); lies = rw (e, inside, ← at_entry_lem.ensures, ← start) }
+    record { bytes = rw (e, inside, ← at_entry.ensures, ← c.entry-2.ensures, ← start, ← end); lies = rw (e, inside, ← at_entry.ensures, ← start) }
