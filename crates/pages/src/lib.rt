@@ -4,6 +4,8 @@
 // is no room is noted. specs/ says it once for all (`emit`, `emits`), proofs/ has the laws: what is handed over in parts is handed
 // over at once, and records of chains handed over are the first chains, written from cell 0. In code a record is put into cells here,
 // and read from them.
+#![tactic(auto)]
+
 ghost use Rattle.std.specs.Prelude.{◌≡◌, ◌+◌, ◌≤◌, length, take, drop};
 ghost use Rattle.std.proofs.Math.Seq.{paste};
 ghost use Rattle.ways.specs.Sizes.{record_size};
