@@ -1,6 +1,5 @@
 -- `go_on` meets its contract: the portion's promise says what was to come, and the laws what is to come after it.
-use mathlib.Core.Path.{ap}
-use Rattle.chains.proofs.Going.{way_refused, way_counts, way_last, way_ends, way_on}
+use Rattle.chains.proofs.Going.{way_refused, way_counts, way_ends, way_on}
 use Rattle.chains.proofs.onward.go_on.Goals as goal
 
 pub returns-in_default : goal.returns-in_default
