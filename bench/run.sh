@@ -22,8 +22,7 @@ mkdir -p "$out"
 load() { cut -d ' ' -f 1 /proc/loadavg; }
 before=$(load)
 
-[ -f target/staticlib/liboutside.a ] || rt staticlib outside
-[ -x target/bin/chains ] || rt check chains
+[ -f target/staticlib/liboutside.a ] && [ -x target/bin/chains ] || bash tools/build.sh
 
 has_igraph() { echo '#include <igraph/igraph.h>' | "${CXX:-g++}" -x c++ -fsyntax-only - 2> "$out/igraph.log"; }
 if ! has_igraph; then

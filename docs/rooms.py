@@ -15,7 +15,7 @@ LINE, FRAME = "#8a8f98", "#3d6a9e"
 def rooms_of(text):
     """Each room with those it stands on, which the file names before it."""
     lines = [line.split(":") for line in text.splitlines() if line and line[0] != "#"]
-    named = {name: below.split() for name, below in lines}
+    named = {name.split()[0]: below.split() for name, below in lines}
     return {name: [other for other in below if other in named] for name, below in named.items()}
 
 

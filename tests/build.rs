@@ -12,7 +12,7 @@ fn main() {
     println!("cargo:rerun-if-changed={}", archive.display());
     if !archive.exists() {
         panic!(
-            "target/staticlib/liboutside.a is missing: build the static library `outside` first"
+            "target/staticlib/liboutside.a is missing: run `bash tools/build.sh` first"
         );
     }
     println!("cargo:rustc-link-search=native={}", folder.display());

@@ -107,10 +107,10 @@ class Writing(unittest.TestCase):
             self.assertEqual(answered(full), 0)
 
     def test_a_pipe_that_nobody_reads(self):
-        for restore_signals, status in ((True, -signal.SIGPIPE), (False, 0)):
+        for restore_signals in (True, False):
             with pipe() as (out, into):
                 out.close()
-                self.assertEqual(answered(into, restore_signals=restore_signals), status)
+                self.assertEqual(answered(into, restore_signals=restore_signals), 0)
 
     def test_a_full_pipe_that_does_not_wait(self):
         with pipe() as (out, into):

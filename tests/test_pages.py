@@ -1,5 +1,5 @@
 """The pages held to what they speak of: docs/FORMAT.md to the six-person file, the picture of the rooms to crates.txt, README's question to
-the program, its version to the header. target/bin/chains has to stand."""
+the program, its version to the header, the six-person file to the one that row_views is run on. target/bin/chains has to stand."""
 
 import re
 import subprocess
@@ -38,6 +38,9 @@ class Format(unittest.TestCase):
             subprocess.run([sys.executable, "-c", writer], cwd=folder, check=True)
             self.assertEqual((Path(folder) / "six_persons.klf").read_bytes(), SIX_PERSONS)
 
+    def test_the_six_person_file_is_the_one_of_the_row_views(self):
+        self.assertEqual((ROOT / "crates" / "row_views" / "stdin").read_bytes(), SIX_PERSONS)
+
     def test_the_bytes_are_those_of_the_six_person_file(self):
         shown = b""
         for place, fields, _ in six_persons_lines():
@@ -69,7 +72,7 @@ class Readme(unittest.TestCase):
         self.assertEqual(drawn.stdout, (ROOT / "docs" / "rooms.svg").read_bytes(), "python3 docs/rooms.py < crates.txt > docs/rooms.svg")
 
     def test_every_room_has_its_row(self):
-        rooms = re.findall(r"^(\w+):", (ROOT / "crates.txt").read_text(), flags=re.M)
+        rooms = re.findall(r"^(\w+)(?: staticlib)?:", (ROOT / "crates.txt").read_text(), flags=re.M)
         rows = re.findall(r"^\| `(\w+)` \|", section("README.md", "How the house is laid out"), flags=re.M)
         self.assertEqual(sorted(rows), sorted(rooms))
 

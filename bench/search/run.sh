@@ -1,20 +1,15 @@
 #!/usr/bin/env bash
 # Measures the search against a C++ baseline and prints its rows of the table. Never part of pass or fail.
-# The face of the search is exported in a copy of the crates under target/bench, not in the repository. What stands proved under
-# target/ is taken along, so that it is not proved again if it has not changed.
+# The face of the search is exported in a copy of the crates outside the repository, in which no crate stands that crates.txt does not
+# name. What a check here kept is begun with there, so that nothing is proved again if it has not changed.
 set -euo pipefail
-here=$(cd "$(dirname "$0")" && pwd)
-root=$(cd "$here/../.." && pwd)
-copy=$root/target/bench/search
-mkdir -p "$copy/crates/bench_export/src" "$copy"/target/{rlib,stamp,log}
+cd "$(dirname "${BASH_SOURCE[0]}")/../.."
+copy=$(mktemp -d)
+trap 'rm -rf "$copy"' EXIT
+mkdir -p target/bench "$copy/crates/bench_export/src"
 for crate in ways compact cells pages barriers search; do
-    rm -rf "$copy/crates/$crate"
-    cp -r "$root/crates/$crate" "$copy/crates/$crate"
-    [ -f "$root/target/stamp/$crate" ] || continue
-    rm -rf "$copy/target/rlib/$crate.rlib"
-    cp -r "$root/target/rlib/$crate.rlib" "$copy/target/rlib/"
-    cp "$root/target/stamp/$crate" "$copy/target/stamp/"
-    cp "$root/target/log/$crate".* "$copy/target/log/"
+    cp -r "crates/$crate" "$copy/crates"
+    rm -rf "$copy/crates/$crate/out"
 done
 cat >"$copy/crates.txt" <<'END'
 ways:
@@ -23,17 +18,19 @@ cells: ways
 pages: ways cells
 barriers: ways compact
 search: ways compact pages barriers
-bench_export: search barriers pages compact ways
+bench_export staticlib: search barriers pages compact ways
 END
 cat >"$copy/crates/bench_export/src/lib.rt" <<'END'
 // The face of the search for C++, for the benchmark alone.
-ghost use Rattle·search.specs.Face.{Asked};
+#![tactic(auto)]
+
+ghost use Rattle.search.specs.Face.{Asked};
 
 use compact::LINKS;
 use compact::PERSONS;
 use compact::STARTS;
 
-#[no_mangle]
+#[unsafe(no_mangle)]
 pub extern "C" fn bench_list(
     rows: &[u16; STARTS],
     targets: &[u16; LINKS],
@@ -45,14 +42,15 @@ pub extern "C" fn bench_list(
     bookmark: &[u32],
     out: &mut [u32],
 ) -> usize
-    requires { ⌜ Asked (now rows) (now targets) (now fewest) from to hops started (now bookmark) ⌝ }
+    requires { Asked rows.now targets.now fewest.now from to hops started bookmark.now }
 {
     let r = search::list(rows, targets, fewest, from, to, hops, started, bookmark, out);
     if r.more != 0 {
-        return std::num::wrapping_add_usize(r.count, 4611686018427387904);
+        return r.count.wrapping_add(4611686018427387904);
     }
     r.count
 }
 END
-(cd "$copy" && rt staticlib bench_export >build.log 2>&1) || { tail -20 "$copy/build.log"; exit 1; }
-exec bash "$here/../plain/measure.sh" bench/search/drive.cpp "$copy/target/staticlib/libbench_export.a"
+(cd "$copy/crates/bench_export" && rt lib >"$copy/build.log" 2>&1) || { tail -20 "$copy/build.log"; exit 1; }
+cp "$copy/crates/bench_export/out/libbench_export.a" target/bench/libbench_export.a
+bash bench/plain/measure.sh bench/search/drive.cpp target/bench/libbench_export.a

@@ -6,6 +6,6 @@ set -eu
 here=$(dirname "${BASH_SOURCE[0]}")
 
 archive=${KIN_ARCHIVE:-$here/../../target/staticlib/liboutside.a}
-[ -f "$archive" ] || { echo "$archive is missing: run 'rt staticlib outside' first, or name the archive by KIN_ARCHIVE" >&2; exit 1; }
+[ -f "$archive" ] || { echo "$archive is missing: run 'bash tools/build.sh' first, or name the archive by KIN_ARCHIVE" >&2; exit 1; }
 
 cc -shared -o "$here/kin/libkin.so" -Wl,-z,defs -Wl,--whole-archive "$archive" -Wl,--no-whole-archive

@@ -1,4 +1,4 @@
-//! Links the proved static library. `rt staticlib outside` builds it beforehand; it is never built from here. The environment
+//! Links the proved static library. `bash tools/build.sh` builds it beforehand; it is never built from here. The environment
 //! variable `KIN_ARCHIVE` names it, by its whole path, if it lies elsewhere.
 
 use std::env;
@@ -10,7 +10,7 @@ fn main() {
     let archive = env::var_os("KIN_ARCHIVE").map_or_else(archive_of_this_house, PathBuf::from);
     assert!(
         archive.is_file(),
-        "{} is missing: run `rt staticlib outside` first, or name the archive by KIN_ARCHIVE",
+        "{} is missing: run `bash tools/build.sh` first, or name the archive by KIN_ARCHIVE",
         archive.display()
     );
     println!("cargo:rerun-if-changed={}", archive.display());

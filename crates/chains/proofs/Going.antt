@@ -17,7 +17,7 @@ use Rattle.question.specs.declared.Question.{Question}
 use Rattle.question.specs.Asked.{asked_fault}
 use Rattle.portion.specs.Listing.{listing_for, portion_fault, portion_for, ended_for, Portioned}
 use Rattle.listing.specs.Portions.{Listing, Start, bookmarked, start_said, starts_after, refusal_of}
-use Rattle.refusals.specs.Answers.{Answer, listed, refused, answer_said, answer_for}
+use Rattle.refusals.specs.Answers.{listed, refused, answer_said, answer_for}
 use Rattle.listing.specs.EndToEnd.{last_record}
 use Rattle.refusals.specs.declared.Answer as code
 use Rattle.portion.proofs.Instance.{fresh_chains, chains-listing}

@@ -3,6 +3,8 @@
 // Nothing is decided here: `pieces` makes what is printed, a piece at a time, and its promise names every byte of it (specs/Pieces). What
 // is left is to read, and to write each piece before the next one is made: no contract can say that. It streams, in fixed memory: a
 // portion is printed before the next one is asked for. A write that fails, as to a closed pipe, ends it.
+#![tactic(auto)]
+
 mod ahead;
 mod onward;
 mod pieces;
@@ -15,7 +17,7 @@ ghost use Rattle.text.specs.Printed.{longest_line};
 ghost use Rattle.chains.specs.Program.{longest_input, portion_size};
 
 use crate::reading::QUESTION;
-use libc::{STDIN_FILENO, STDOUT_FILENO};
+use std::io::Read;
 use ways::RECORD;
 
 // The most bytes of a file.
@@ -26,6 +28,9 @@ const LONGEST_INPUT: usize = QUESTION + LONGEST_FILE + 1;
 const PORTION: usize = 4_096;
 
 const CELLS: usize = PORTION * RECORD;
+
+// The most bytes of a piece.
+const PIECE: usize = 65_536;
 
 // Zeros for the input, and for the records of a portion. The `ensures` gives the length, which lending them as a slice needs.
 fn input_space() -> [u8; LONGEST_INPUT]
@@ -40,8 +45,30 @@ fn record_space() -> [u32; CELLS]
     [0; CELLS]
 }
 
+// Zeros for a piece.
+fn piece_space() -> [u8; PIECE]
+    ensures { 65_536 ≡ length result }
+{
+    [0; PIECE]
+}
+
+// Reads until the space is full, the input ends or a read fails: how many bytes came.
+fn read_full(from: &mut impl Read, space: &mut [u8]) -> usize
+    ensures { result ≤ length space.new }
+{
+    let mut done = 0;
+    while done < space.len() {
+        let more = from.read(&mut space[done..]).unwrap_or(0);
+        if more == 0 {
+            break;
+        }
+        done += more;
+    }
+    done
+}
+
 // Piece by piece, until one is empty: then nothing is left.
-fn print(input: &[u8], cells: &mut [u32], out: &mut [u8])
+fn print(rt: &impl Print, input: &[u8], cells: &mut [u32], out: &mut [u8])
     requires { (record_size ≤ length cells.old) × (longest_line ≤ length out.old) }
 {
     let mut progress = progress::begin();
@@ -51,7 +78,7 @@ fn print(input: &[u8], cells: &mut [u32], out: &mut [u8])
         if bytes == 0 {
             return;
         }
-        if !io::write_all(STDOUT_FILENO, &out[..bytes]) {
+        if rt.write_all(&out[..bytes]).is_err() {
             return;
         }
         let after = piece.progress;
@@ -59,10 +86,10 @@ fn print(input: &[u8], cells: &mut [u32], out: &mut [u8])
     }
 }
 
-fn main() {
+fn main(rt: HostRuntime) {
     let mut input = input_space();
-    let length = io::read_full(STDIN_FILENO, &mut input);
+    let length = read_full(&mut rt.stdin(), &mut input);
     let mut cells = record_space();
-    let mut out = io::large_buffer();
-    print(&input[..length], &mut cells, &mut out);
+    let mut out = piece_space();
+    print(&rt, &input[..length], &mut cells, &mut out);
 }

@@ -2,6 +2,8 @@
 //
 // Every function is total: any bytes, any numbers. Each is a thin face over one public operation of the rooms below, and its
 // contract is that operation's answer in the encoding of specs/. A refusal is 2^63 + number * 2^32 + place.
+//
+// A library exports nothing: the symbols are those of the static library over it, `outside_c`.
 #![tactic(auto)]
 
 mod encoding;

@@ -1,65 +1,96 @@
 // Prints the verdict on the link file that comes on standard input and, where it passed, the bytes of each person's row view,
 // one line a person. What the bytes are is decided in `checking`.
-use checking::Verdict;
-use libc::{STDIN_FILENO, STDOUT_FILENO};
+#![tactic(auto)]
 
-fn print(text: &[u8]) {
-    io::write_all(STDOUT_FILENO, text);
+ghost use Rattle.std.specs.Prelude.{◌≡◌, ◌≤◌, length};
+
+use checking::Verdict;
+use std::io::Read;
+
+// The most bytes that are read.
+const SPACE: usize = 65_536;
+
+// Zeros for the input. The `ensures` gives the length, which lending them as a slice needs.
+fn input_space() -> [u8; SPACE]
+    ensures { 65_536 ≡ length result }
+{
+    [0; SPACE]
 }
 
-fn print_number(number: u32) {
-    io::print_decimal(STDOUT_FILENO, number as u64);
+// Reads until the space is full, the input ends or a read fails: how many bytes came.
+fn read_full(from: &mut impl Read, space: &mut [u8]) -> usize
+    ensures { result ≤ length space.new }
+{
+    let mut done = 0;
+    while done < space.len() {
+        let more = from.read(&mut space[done..]).unwrap_or(0);
+        if more == 0 {
+            break;
+        }
+        done += more;
+    }
+    done
+}
+
+// A write that fails is passed over.
+fn print(rt: &impl Print, text: &[u8]) {
+    let _ = rt.write_all(text);
+}
+
+fn print_number(rt: &impl Print, number: u32) {
+    let _ = rt.print(number);
 }
 
 // A person, then the bytes of the view in two hexadecimal digits each.
-fn print_view(person: u32, view: &[u8]) {
-    print_number(person);
-    print(b":");
+fn print_view(rt: &impl Print, person: u32, view: &[u8]) {
+    print_number(rt, person);
+    print(rt, b":");
     let mut at = 0;
     while at < view.len() {
-        print(b" ");
-        io::print_hex(STDOUT_FILENO, view[at] as u64, 2);
+        let byte = view[at];
+        print(rt, b" ");
+        let _ = print!(rt; "{byte:02x}");
         at += 1;
     }
-    print(b"\n");
+    print(rt, b"\n");
 }
 
-fn print_views(file: &[u8], persons: u32) {
+fn print_views(rt: &impl Print, file: &[u8], persons: u32) {
     let mut person = 0;
     while person < persons {
-        print_view(person, checking::row(file, person));
+        print_view(rt, person, checking::row(file, person));
         person += 1;
     }
 }
 
-fn print_verdict(file: &[u8]) {
+fn print_verdict(rt: &impl Print, file: &[u8]) {
     match checking::check(file) {
         Verdict::Passed {
             persons,
             links,
             feeds,
         } => {
-            print(b"passed: ");
-            print_number(persons);
-            print(b" persons, ");
-            print_number(links);
-            print(b" links, ");
-            print_number(feeds);
-            print(b" feeds\n");
-            print_views(file, persons);
+            print(rt, b"passed: ");
+            print_number(rt, persons);
+            print(rt, b" persons, ");
+            print_number(rt, links);
+            print(rt, b" links, ");
+            print_number(rt, feeds);
+            print(rt, b" feeds\n");
+            print_views(rt, file, persons);
         }
         Verdict::Refused { number, place } => {
-            print(b"refused ");
-            print_number(number);
-            print(b" at ");
-            print_number(place);
-            print(b"\n");
+            print(rt, b"refused ");
+            print_number(rt, number);
+            print(rt, b" at ");
+            print_number(rt, place);
+            print(rt, b"\n");
         }
     }
 }
 
-fn main() {
-    let mut space = io::large_buffer();
-    let length = io::read_full(STDIN_FILENO, &mut space);
-    print_verdict(&space[..length]);
+fn main(rt: HostRuntime) {
+    let mut space = input_space();
+    let length = read_full(&mut rt.stdin(), &mut space);
+    print_verdict(&rt, &space[..length]);
 }

@@ -1,0 +1,17 @@
+-- `go_on` meets its contract: the portion's promise says what was to come, and the laws what is to come after it.
+use Rattle.chains.proofs.Going.{way_refused, way_counts, way_ends, way_on}
+use Rattle.chains.proofs.onward.go_on.Goals as goal
+
+pub returns-in_default : goal.returns-in_default
+returns-in_default c = way_refused c.requires c.portion-answer.ensures _ _ c.in_default.is
+
+pub count_on-requires : goal.count_on-requires
+count_on-requires c = way_counts c.requires c.portion-answer.ensures c.in-Listed.is
+
+pub returns-then-not-ended : goal.returns-then-not-ended
+returns-then-not-ended c =
+    way_on c.requires c.portion-answer.ensures c.in-Listed.is c.count_on.ensures.0 c.count_on.ensures.1 c.if-not-ended.true c.keep_last.ensures
+
+pub returns-else-not-ended : goal.returns-else-not-ended
+returns-else-not-ended c =
+    way_ends c.requires c.portion-answer.ensures c.in-Listed.is c.count_on.ensures.0 c.count_on.ensures.1 _ c.if-not-ended.false
