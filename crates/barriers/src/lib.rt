@@ -6,6 +6,8 @@
 // One face, `settle`. Its promise says what becomes of barriers and trail when a person is left: they hold again, none that is new is
 // high, and the trail leads back. How that is done is this room's own affair. The trail is lent, of any length: while it is full no barrier
 // is raised, and a search then takes longer and loses nothing.
+#![tactic(auto)]
+
 ghost use Rattle.barriers.specs.Settling.{Settling, Settled};
 
 mod trail;

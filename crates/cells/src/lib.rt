@@ -2,6 +2,8 @@
 //
 // Whoever copies cells calls `copy`: what it promises is one list pasted into another (`lib.Seq.paste`), and the one law of a loop that
 // copies stands in proofs/Copying. A caller says in its own words what it copied: a record, a half chain, a bookmark, some text.
+#![tactic(auto)]
+
 pub mod bytes;
 
 ghost use Rattle.std.specs.Prelude.{◌≡◌, ◌+◌, ◌≤◌, length, drop};

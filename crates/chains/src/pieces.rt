@@ -12,7 +12,7 @@ use crate::ahead::look_ahead;
 use crate::progress::{Left, Progress};
 
 // So many bytes were put, and how far the printing is behind them.
-#[derive(Drop)]
+#[derive(Clone, Copy)]
 pub struct Piece {
     pub bytes: usize,
     pub progress: Progress,

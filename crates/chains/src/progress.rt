@@ -5,7 +5,7 @@ use text::counts::DIGITS;
 use ways::RECORD;
 
 // What is still to be printed.
-#[derive(Drop)]
+#[derive(Clone, Copy)]
 pub enum Left {
     // The next portion, and what follows it; the first one where the listing was not started.
     Portion {
@@ -26,7 +26,7 @@ pub enum Left {
 }
 
 // What is left, the record behind which the next portion starts, and the chains counted so far.
-#[derive(Drop)]
+#[derive(Clone, Copy)]
 pub struct Progress {
     pub left: Left,
     pub bookmark: [u32; RECORD],

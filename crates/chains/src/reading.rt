@@ -8,7 +8,7 @@ use question::Question;
 // The bytes of a question.
 pub const QUESTION: usize = 32;
 
-#[derive(Drop)]
+#[derive(Clone, Copy)]
 pub enum Input {
     Asks(Question),
     Refused { number: u32, place: u32 },

@@ -19,7 +19,7 @@ use format::{header, layout};
 use refusals::Fault;
 
 // What the check answers.
-#[derive(Drop)]
+#[derive(Clone, Copy)]
 pub enum Verdict {
     Passed {
         persons: u32,

@@ -14,7 +14,7 @@ use format::{kinds, links, rows};
 use refusals::Fault;
 
 // The link before it that counts, if there is one: the first of a row has nothing to rise above.
-#[derive(Drop)]
+#[derive(Clone, Copy)]
 pub enum Before {
     Nothing,
     Counted(Link),

@@ -20,8 +20,8 @@ pub fn of_counts(file: &[u8]) -> u32
 
 // Of the offsets and the length (3): 0.
 pub fn of_offsets(file: &[u8]) -> u32
-    requires file_value { marked file.now ≡ true }
-    requires file_value_2 { counts_fit file.now ≡ true }
+    requires mark { marked file.now ≡ true }
+    requires counts { counts_fit file.now ≡ true }
     ensures { result ≡ offsets_place file.now }
 {
     0

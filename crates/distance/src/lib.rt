@@ -17,7 +17,7 @@ use question::{Question, filling};
 use refusals::Fault;
 
 // What fewest hops answers: the hops, one more than the question's where To is not in reach, or the refusal and its place.
-#[derive(Drop)]
+#[derive(Clone, Copy)]
 pub enum HopsAnswer {
     Hops(u32),
     Refused { number: u32, place: u32 },

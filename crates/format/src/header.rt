@@ -9,6 +9,7 @@ use crate::{layout, numbers};
 use ways::{FEEDS, LINKS, PERSONS};
 
 // Whether there are 32 bytes and the mark is `KLF1`.
+#[tactic(auto, unfolding(crate::specs::Format::marked))]
 pub fn marked(file: &[u8]) -> bool
     ensures { result ≡ marked file.now }
 {
@@ -52,6 +53,7 @@ fn stated_offsets(file: &[u8]) -> Offsets
 }
 
 // Whether n is 1 to its limit, and m and f are at most theirs.
+#[tactic(auto, unfolding(crate::specs::Format::fit))]
 fn fit(counts: Counts) -> bool
     ensures { result ≡ fit counts }
 {
@@ -70,6 +72,7 @@ pub fn counts_fit(file: &[u8]) -> bool
 }
 
 // Whether the stated offsets and length are the derived ones, and the length is that of the slice.
+#[tactic(auto, unfolding(crate::specs::Format::agree))]
 fn agree(stated: Offsets, derived: Offsets, length: usize) -> bool
     ensures { result ≡ agree stated derived length }
 {
@@ -82,8 +85,8 @@ fn agree(stated: Offsets, derived: Offsets, length: usize) -> bool
 
 // Whether the offsets and the length are as derived from the counts, and the length is the slice's.
 pub fn laid_out(file: &[u8]) -> bool
-    requires file_value { marked file.now ≡ true }
-    requires file_value_2 { counts_fit file.now ≡ true }
+    requires mark { marked file.now ≡ true }
+    requires counts { counts_fit file.now ≡ true }
     ensures { result ≡ laid_out file.now }
 {
     agree(
@@ -95,9 +98,9 @@ pub fn laid_out(file: &[u8]) -> bool
 
 // The counts of a file that passed 1, 2 and 3.
 pub fn counts(file: &[u8]) -> Counts
-    requires file_value { marked file.now ≡ true }
-    requires file_value_2 { counts_fit file.now ≡ true }
-    requires file_value_3 { laid_out file.now ≡ true }
+    requires mark { marked file.now ≡ true }
+    requires counts { counts_fit file.now ≡ true }
+    requires layout { laid_out file.now ≡ true }
     ensures { Laid file.now result }
 {
     stated_counts(file)

@@ -3,13 +3,14 @@ ghost use Rattle.std.specs.Prelude.{◌≡◌};
 ghost use Rattle.format.specs.Kinds.{class_said, class_of, known};
 
 // A class, or unknown.
-#[derive(Drop)]
+#[derive(Clone, Copy)]
 pub enum Class {
     Of(u8),
     Unknown,
 }
 
 // Decided by ranges of the kind number: a class, or unknown.
+#[tactic(auto, unfolding(crate::specs::Kinds::class_of))]
 pub fn class_of(kind: u8) -> Class
     ensures { class_said result ≡ class_of kind }
 {

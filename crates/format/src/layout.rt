@@ -13,7 +13,7 @@ const ENTRY: usize = 4;
 const LINK: usize = 12;
 
 // The header's counts: n, m and f.
-#[derive(Drop)]
+#[derive(Clone, Copy)]
 pub struct Counts {
     pub persons: usize,
     pub links: usize,
@@ -21,7 +21,7 @@ pub struct Counts {
 }
 
 // The offsets of the three tables, and the file's length.
-#[derive(Drop)]
+#[derive(Clone, Copy)]
 pub struct Offsets {
     pub feeds: usize,
     pub rows: usize,

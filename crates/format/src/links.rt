@@ -10,7 +10,7 @@ use crate::{layout, numbers};
 pub const LAST_DAY: u32 = 3_652_059;
 
 // A link by value, wherever it stands.
-#[derive(Drop)]
+#[derive(Clone, Copy)]
 pub struct Link {
     pub target: u32,
     pub day: u32,

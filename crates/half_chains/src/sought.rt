@@ -6,7 +6,7 @@ pub const COUNT: usize = 0;
 pub const WRITE: usize = 1;
 
 // Between whom chains are sought and of how many hops at most, in a file of so many persons.
-#[derive(Drop)]
+#[derive(Clone, Copy)]
 pub struct Sought {
     pub persons: usize,
     pub from: usize,

@@ -15,7 +15,7 @@ use refusals::Answer;
 use ways::RECORD;
 
 // Any number in `started` but 0 says that the listing was started; until then the record is not looked at.
-#[derive(Drop)]
+#[derive(Clone, Copy)]
 pub struct Held {
     pub question: Question,
     pub started: u32,
@@ -23,14 +23,14 @@ pub struct Held {
 }
 
 // A held listing after a call, and what the call answers.
-#[derive(Drop)]
+#[derive(Clone, Copy)]
 pub struct Outcome {
     pub held: Held,
     pub answer: Answer,
 }
 
 // What is stored after a call.
-#[derive(Drop)]
+#[derive(Clone, Copy)]
 struct Kept {
     started: u32,
     record: [u32; RECORD],

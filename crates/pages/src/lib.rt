@@ -4,6 +4,8 @@
 // is no room is noted. specs/ says it once for all (`emit`, `emits`), proofs/ has the laws: what is handed over in parts is handed
 // over at once, and records of chains handed over are the first chains, written from cell 0. In code a record is put into cells here,
 // and read from them.
+#![tactic(auto)]
+
 ghost use Rattle.std.specs.Prelude.{◌≡◌, ◌+◌, ◌≤◌, length, take, drop};
 ghost use Rattle.std.proofs.Math.Seq.{paste};
 ghost use Rattle.ways.specs.Sizes.{record_size};
@@ -11,7 +13,7 @@ ghost use Rattle.ways.specs.Sizes.{record_size};
 use ways::RECORD;
 
 // What was handed over: so many chains, and whether there is one more than there is room for (1) or none (0).
-#[derive(Drop)]
+#[derive(Clone, Copy)]
 pub struct HandedOver {
     pub count: usize,
     pub more: usize,

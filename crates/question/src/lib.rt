@@ -17,7 +17,7 @@ use refusals::Fault;
 use ways::RECORD;
 
 // From, to, hops, classes, date meaning, first day, last day, and whether undated links count: 1 they do, 0 they are left out.
-#[derive(Drop)]
+#[derive(Clone, Copy)]
 pub struct Question {
     pub from: u32,
     pub to: u32,
@@ -30,7 +30,7 @@ pub struct Question {
 }
 
 // What a question is asked for: the chains from one person to another, or the rings back to the same person.
-#[derive(Drop)]
+#[derive(Clone, Copy)]
 pub enum Wanted {
     Chains,
     Rings,

@@ -5,14 +5,14 @@
 // here but the two types.
 
 // What a look at one place finds: nothing wrong, or the number of a refusal and its place.
-#[derive(Drop)]
+#[derive(Clone, Copy)]
 pub enum Fault {
     Sound,
     At(u32, u32),
 }
 
 // What an operation that lists answers: how many chains and whether the listing has ended, or the number of the refusal and its place.
-#[derive(Drop)]
+#[derive(Clone, Copy)]
 pub enum Answer {
     Listed { count: usize, ended: bool },
     Refused { number: u32, place: u32 },

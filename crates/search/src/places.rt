@@ -7,14 +7,14 @@ use ways::HOPS;
 pub const TRAIL: usize = HOPS * PERSONS;
 
 // What stays the same all through a search: whom the chains lead to, and how many records there is room for.
-#[derive(Drop)]
+#[derive(Clone, Copy)]
 pub struct Ask {
     pub to: u32,
     pub room: usize,
 }
 
 // Where the chain stands: the persons in it so far, and the hops still allowed.
-#[derive(Drop)]
+#[derive(Clone, Copy)]
 pub struct Stand {
     pub len: usize,
     pub left: usize,
@@ -22,7 +22,7 @@ pub struct Stand {
 
 // What the search has to show: so many records written, whether there is one more than there is room for (1), and how many entries
 // the trail has.
-#[derive(Drop)]
+#[derive(Clone, Copy)]
 pub struct Findings {
     pub count: usize,
     pub more: usize,

@@ -18,7 +18,7 @@ use ways::{HOPS, RECORD};
 const LONGEST_LINE: usize = 2 + (HOPS + 1) * 11 + 1;
 
 // How far the lines reach: the first record that has none yet, and the bytes up to there.
-#[derive(Drop)]
+#[derive(Clone, Copy)]
 pub struct Reached {
     pub next: usize,
     pub bytes: usize,

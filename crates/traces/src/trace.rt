@@ -1,7 +1,7 @@
 // What all modules of this room hand each other.
 
 // The plain numbers of a sequence that is traced towards To. No bool, so that there is no padding: it is copied with each step.
-#[derive(Drop)]
+#[derive(Clone, Copy)]
 pub struct Trace {
     // whom it has to lead to
     pub to: usize,
