@@ -5,7 +5,7 @@ use mathlib.Core.List.{List}
 use Prim.Native.Nat.{ℕ, ◌+◌, ◌<◌, ◌≤◌}
 use native.Mathlib.Omega.{arith}
 use Rattle.format.specs.Format.{marked, counts_fit, laid_out, person_count, link_count, feed_count, row}
-use Rattle.checking.specs.Verdict.{Verdict, passed, refused, verdict}
+use Rattle.checking.specs.Verdict.{passed, refused, verdict}
 use Rattle.refusals.specs.Faults.{Fault, sound, fault, unless, first_of, first_among}
 use Rattle.checking.specs.Places.{mark_place, counts_place, offsets_place}
 use Rattle.checking.specs.Checked.{feed_fault, row_fault, owned_fault, tables_fault, file_fault, checked}

@@ -23,6 +23,7 @@ fn archive_rises(file: &[u8], feed: usize) -> bool
 }
 
 // The rule of refusal 4.
+#[tactic(auto, unfolding(crate::specs::Checked::feed_ruled))]
 fn feed_ruled(file: &[u8], feed: usize) -> bool
     requires { (feed < most_feeds) × (feed_at feed + feed_size ≤ length file.now) }
     ensures { result ≡ feed_ruled file.now feed }

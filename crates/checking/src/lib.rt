@@ -3,6 +3,8 @@
 // Anybody may hand in any bytes. `check` answers n, m and f, or the number of the first refusal and its place; `row` answers the
 // very part of the lent file that a person's links occupy. The rules of a link are over links by value, wherever they stand; what a
 // refusal's place is stands in `places` and in specs/Places alone.
+#![tactic(auto)]
+
 mod feeds;
 mod links;
 mod places;

@@ -31,6 +31,7 @@ fn rises(before: Before, link: Link) -> bool
 }
 
 // The rule of refusal 7.
+#[tactic(auto, unfolding(crate::specs::Links::link_ruled))]
 fn link_ruled(counts: Counts, owner: usize, before: Before, link: Link) -> bool
     ensures { result ≡ link_ruled counts owner before link }
 {

@@ -38,6 +38,7 @@ fn in_sum(kind: u8, classes: u32) -> bool
 
 // Whether a link is undated and the question wants undated links, or has a day of the window from a feed whose days mean what the
 // question asks.
+#[tactic(auto, unfolding(crate::specs::Admission::day_admitted))]
 fn day_admitted(file: &[u8], question: Question, link: Link) -> bool
     requires { (link.feed < most_feeds) × (feed_at link.feed + feed_size ≤ length file.now) }
     ensures { result ≡ day_admitted file.now question link }

@@ -27,6 +27,7 @@ fn ends_fault(persons: u32, question: Question) -> Fault
 }
 
 // The days of the question make a window.
+#[tactic(auto, unfolding(crate::specs::Asked::days_fit))]
 fn days_fit(question: Question) -> bool
     ensures { result ≡ days_fit question }
 {
@@ -53,6 +54,7 @@ fn pair_fault(question: Question, wanted: Wanted) -> Fault
 }
 
 // 12 to 15, then 20: what a question may ask, whatever the file.
+#[tactic(auto, unfolding(crate::specs::Asked::terms_fault))]
 fn terms_fault(question: Question) -> Fault
     ensures { fault_said result ≡ terms_fault question }
 {

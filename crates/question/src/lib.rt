@@ -4,6 +4,8 @@
 // question, a person who is not in the file and an output without room for a record, each with its number and place; it says which links
 // a question admits, and turns bytes into the compact graph that every later room sees: once a file and a question have passed, listing
 // and searching read `next` and no byte.
+#![tactic(auto)]
+
 mod admission;
 mod faults;
 pub mod filling;

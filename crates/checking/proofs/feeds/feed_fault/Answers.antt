@@ -1,5 +1,4 @@
 -- `feed_fault` meets its contract: 4's rule decides before 5's.
-use borrow.Author.Tests.{not-true, not-false}
 use Rattle.format.proofs.Counted.{counts_are}
 use Rattle.checking.specs.Checked.{feed_fault}
 use Rattle.checking.proofs.feeds.feed_fault.Goals as goal
@@ -7,14 +6,14 @@ use Rattle.checking.proofs.feeds.feed_fault.Goals as goal
 pub returns-then-not-feed_ruled : goal.returns-then-not-feed_ruled
 unfolding feed_fault
 returns-then-not-feed_ruled c =
-    rw (← c.feed_ruled.ensures, not-true c.feed_ruled.result c.if-not-feed_ruled.true, c.of_feed-place.ensures, counts_are c.requires.0)
+    rw (← c.feed_ruled.ensures, c.if-not-feed_ruled.true, c.of_feed-place.ensures, counts_are c.requires.0)
 
 pub returns-then-not-within : goal.returns-then-not-within
 unfolding feed_fault
 returns-then-not-within c =
-    rw (← c.feed_ruled.ensures, not-false c.feed_ruled.result c.if-not-feed_ruled.false, ← c.meaning.ensures, ← c.within.ensures, not-true c.within.result c.if-not-within.true, c.of_feed-place.ensures, counts_are c.requires.0)
+    rw (← c.feed_ruled.ensures, c.if-not-feed_ruled.false, ← c.meaning.ensures, ← c.within.ensures, c.if-not-within.true, c.of_feed-place.ensures, counts_are c.requires.0)
 
 pub returns : goal.returns
 unfolding feed_fault
 returns c =
-    rw (← c.feed_ruled.ensures, not-false c.feed_ruled.result c.if-not-feed_ruled.false, ← c.meaning.ensures, ← c.within.ensures, not-false c.within.result c.if-not-within.false)
+    rw (← c.feed_ruled.ensures, c.if-not-feed_ruled.false, ← c.meaning.ensures, ← c.within.ensures, c.if-not-within.false)

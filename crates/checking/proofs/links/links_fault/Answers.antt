@@ -1,6 +1,6 @@
 -- `links_fault` meets its contract. Each loop's invariant says what is still to be looked at, and that nothing was found yet.
 use mathlib.Core.Path.{refl, sym, ap, ◌∙◌}
-use Prim.Native.Nat.{◌+◌, ◌-◌}
+use Prim.Native.Nat.{◌+◌}
 use native.Mathlib.Omega.{arith}
 use Rattle.refusals.specs.Faults.{fault_said}
 use Rattle.refusals.proofs.Faults.{look_starts, look_on, look_stops, look_ends}
@@ -32,7 +32,7 @@ link_fault-found-requires c =
 pub loop-number-preserved : goal.loop-number-preserved
 loop-number-preserved c =
     let at-going = c.loop-number.invariant.1 in
-    (c.enum_told-in_default-1.given.1, going_on at-going c.loop-number-test.true c.link_in-link.ensures (going_finds at-going c.requires.laid c.link_in-link.ensures c.link_fault-found.ensures ∙ ap fault_said c.enum_told-in_default-1.given.1))
+    (c.in_default.is, going_on at-going c.loop-number-test.true c.link_in-link.ensures (going_finds at-going c.requires.laid c.link_in-link.ensures c.link_fault-found.ensures ∙ ap fault_said c.in_default.is))
 
 pub persons-preserved : goal.persons-preserved
 persons-preserved c = (c.loop-number.invariant.0, look_on c.persons.invariant.1 c.persons-test.true (sym (look_ends c.loop-number.invariant.1.looking c.loop-number-test.false)))
@@ -44,5 +44,5 @@ returns-after-persons c =
 pub returns-in-At : goal.returns-in-At
 returns-in-At c =
     let at-going = c.loop-number.invariant.1 in
-    let finds = going_finds at-going c.requires.laid c.link_in-link.ensures c.link_fault-found.ensures ∙ ap fault_said c.enum_told-1.given.1 in
-    ap fault_said c.enum_told-1.given.1 ∙ look_stops c.persons.invariant.1 c.persons-test.true (sym (look_stops at-going.looking c.loop-number-test.true finds))
+    let finds = going_finds at-going c.requires.laid c.link_in-link.ensures c.link_fault-found.ensures ∙ ap fault_said c.in-At.is in
+    ap fault_said c.in-At.is ∙ look_stops c.persons.invariant.1 c.persons-test.true (sym (look_stops at-going.looking c.loop-number-test.true finds))

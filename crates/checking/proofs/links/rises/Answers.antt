@@ -2,4 +2,4 @@
 use Rattle.checking.proofs.links.rises.Goals as goal
 
 pub returns-in-Counted : goal.returns-in-Counted
-returns-in-Counted c = rw c.before-1.given.1
+returns-in-Counted c = rw c.in-Counted.is
