@@ -49,7 +49,7 @@ anybody_some cells h (v ∷ row) e = go (eqb (get_or cells v 0) h) refl e (λ i.
     go true t e on = (v, Memᴰ.head refl, eqb-true (get_or cells v 0) h t)
     go false t e on = let r = on e in (r.0, Memᴰ.tail r.1, r.2)
 
-anybody_none : (cells : List ℕ) (h : ℕ) {row : List ℕ} {v : ℕ} → v ∈ row → get_or cells v 0 ≡ h → anybody cells h row ≡ true
+anybody_none : (cells : List ℕ) (h : ℕ) {v : ℕ} {row : List ℕ} → v ∈ row → get_or cells v 0 ≡ h → anybody cells h row ≡ true
 unfolding anybody
 anybody_none cells h {v = v} (Memᴰ.head {x = x} e) is = rw (eq-eqb (get_or cells x 0) h (ap (λ (u : ℕ). get_or cells u 0) (sym e) ∙ is))
 anybody_none cells h (Memᴰ.tail {x = x} m) is = go (eqb (get_or cells x 0) h) (anybody_none cells h m is)

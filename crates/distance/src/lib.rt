@@ -3,6 +3,8 @@
 // `fewest` answers it for any bytes, any question and any person: the hops, or the number and the place of the refusal. The table
 // behind it holds one cell for each of 1,024 persons; the search starts from it too, since whoever is farther from To than hops are
 // left is in no chain. The table is found on the compact graph alone, which `question` fills.
+#![tactic(auto)]
+
 pub mod table;
 
 ghost use Rattle.std.specs.Prelude.{◌≡◌};

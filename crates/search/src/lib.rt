@@ -4,6 +4,8 @@
 // One face, `list`, lends marks, barriers and trail down to two functions that call each other in a cycle. What it promises
 // speaks of the listing alone. Pruning, by the fewest hops at first and by barriers from then on, changes no listing:
 // that is proved; the time it saves is measured.
+#![tactic(auto)]
+
 ghost use Rattle.search.specs.Face.{Asked, Answered};
 
 mod bookmark;
