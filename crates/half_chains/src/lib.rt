@@ -3,6 +3,8 @@
 // Half chains are gone through from each number of hops and each first person in turn, counted or written as records with an index of
 // them; chains of 1, 2, .. hops are found by their left halves, each with the right halves that start where it ends. `traces` extends
 // both. Only the compact graph is read here; who is asked, and what is refused, is the business of `join`.
+#![tactic(auto)]
+
 pub mod chains;
 pub mod halves;
 pub mod sought;

@@ -4,6 +4,8 @@
 // mark and record, and stores the mark and the record, nothing else. What they are to be, `to_keep` says on values. `advanced` is the
 // face for every other caller, from values to values through `advance`, with the same promise. A call that hands over no chain, and a
 // refusal, change nothing. Calls one after another hand over the listing end to end: proofs/Onward.
+#![tactic(auto)]
+
 ghost use Rattle.std.specs.Prelude.{◌≡◌};
 ghost use Rattle.refusals.specs.Answers.{answer_said};
 ghost use Rattle.listing.specs.EndToEnd.{count_of};
@@ -59,9 +61,11 @@ pub fn advance(held: &mut Held, file: &[u8], out: &mut [u32]) -> Answer
     ensures { MovedOn file.now held.old held.new out.old out.new result }
 {
     let answer = portion::portion(file, held.question, held.started, &held.record, out);
-    let kept = to_keep(answer, held.started, held.record, out);
+    let before = held.record;
+    let kept = to_keep(answer, held.started, before, out);
+    let behind = kept.record;
     held.started = kept.started;
-    held.record = kept.record;
+    held.record = behind;
     answer
 }
 

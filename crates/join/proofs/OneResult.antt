@@ -17,7 +17,7 @@ use Rattle.ways.proofs.ByHops.{by_hops_iff}
 use Rattle.question.specs.declared.Question.{Question}
 use Rattle.question.specs.Admission.{next}
 use Rattle.join.specs.Lists.{chains_for, join_fault, first_ones, all_fit}
-use Rattle.refusals.specs.Answers.{Answer, listed, answer_for, cells_for}
+use Rattle.refusals.specs.Answers.{listed, answer_for, cells_for}
 use Rattle.join.specs.Answers.{JoinOf, Joins}
 use Rattle.refusals.specs.declared.Answer as code
 use Rattle.refusals.proofs.Answers.{answer_said_lem}

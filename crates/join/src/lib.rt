@@ -3,6 +3,8 @@
 // The public face of the half chains: it refuses by number, in order, and has all half chains counted before any is written to the
 // lent working cells; then the chains are gathered from them. It promises the listing by hops, shorter first, then in dictionary
 // order, and every cell that it leaves.
+#![tactic(auto)]
+
 ghost use Rattle.std.specs.Prelude.{◌≡◌, length};
 ghost use Rattle.refusals.specs.Faults.{sound};
 ghost use Rattle.question.specs.Asked.{asked_room_fault};

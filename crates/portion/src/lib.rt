@@ -3,6 +3,8 @@
 // The public face of the search from one person to another. It refuses by number, in order: the file, the question, the output, the bookmark;
 // a refusal changes no cell.
 // It is the first instance of `listing`: portions laid end to end are the listing, by a law over this operation's own promise.
+#![tactic(auto)]
+
 ghost use Rattle.listing.specs.Portions.{start_said};
 ghost use Rattle.portion.specs.Listing.{Portioned};
 

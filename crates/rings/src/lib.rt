@@ -3,6 +3,8 @@
 // The public face of the search where From and To are one person. It refuses by number, in order: the file, the question, with 21 in 11's
 // place, the output, the bookmark; a refusal changes no cell.
 // It is the second instance of `listing`: what holds of portions of any listing holds of the rings, by the same laws.
+#![tactic(auto)]
+
 ghost use Rattle.listing.specs.Portions.{start_said};
 ghost use Rattle.rings.specs.Rings.{RingsPortioned};
 

@@ -2,6 +2,8 @@
 //
 // It asks for a file, a question and an output that have passed, From and To one person or two: so chains and rings are listed by the same
 // lines. Whether a bookmark is the record of one of them is tested cell by cell and never by listing.
+#![tactic(auto)]
+
 mod bookmark;
 
 ghost use Rattle.listing.specs.Portions.{start_said};

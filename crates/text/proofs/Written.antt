@@ -53,7 +53,7 @@ chains_are front n [] rest l f = refl
 chains_are front n (c ∷ L) rest l f =
     let fit = f c (Memᴰ.head refl) in
     ap₂ ◌∷◌ (ap chain_of (at_front front n c L rest l fit) ∙ chain_head c (cells_of record_size L ++ rest) fit)
-    (rw (regroup front n c L rest l fit) (chains_are (front ++ record_of record_size c) (suc n) L rest (longer front n c L rest l fit) (λ d m. f d (Memᴰ.tail m))))
+    (ap (λ (cells : List ℕ). chains_at cells (suc n) (length L)) (regroup front n c L rest l fit) ∙ chains_are (front ++ record_of record_size c) (suc n) L rest (longer front n c L rest l fit) (λ d m. f d (Memᴰ.tail m)))
 
 pub records_are : (front : List ℕ) (n : ℕ) (L : List (List ℕ)) (rest : List ℕ) → length front ≡ n * record_size → ((c : List ℕ) → c ∈ L → Fits record_size c) → (i : ℕ) → i < length L → RecordAt (front ++ (cells_of record_size L ++ rest)) (n + i)
 unfolding cells_of

@@ -3,6 +3,8 @@
 // Records become lines and a refusal becomes a line, in lent bytes: each function answers the place behind what it printed, and
 // its promise names the bytes by the definitions of specs/, which stand beside the customer's words. Nothing is written
 // here but to memory; the program hands the bytes on. The number of chains is counted in forty decimal digits (`counts`).
+#![tactic(auto)]
+
 pub mod counts;
 pub mod numbers;
 

@@ -18,7 +18,7 @@ pub overflow_add-result : goal.overflow_add-result
 overflow_add-result c = omega (arith, c.count-last.ensures.1, c.put-next.ensures.place)
 
 pub shape_of-out : goal.shape_of-out
-shape_of-out c = simp length-set (c.count-last.auto.1.0 ∙ c.put-next.auto.1.0)
+shape_of-out c = simp length-set (c.count-last.auto.out ∙ c.put-next.auto.out)
 
 pub returns : goal.returns
 returns c =

@@ -1,6 +1,5 @@
 -- `line` prints the hops and the colon, then person by person: those from a cell on are still to come.
 use native.Mathlib.Omega.{arith}
-use Prim.Native.Nat.{◌-◌}
 use mathlib.Core.Path.{◌∙◌}
 use lib.ListN.{length-set}
 use Rattle.text.proofs.Spelling.{number_length}
@@ -11,7 +10,7 @@ pub overflow_mul-first : goal.overflow_mul-first
 overflow_mul-first c = omega (arith, c.requires.0.whole)
 
 pub offset_bounds-cells-first : goal.offset_bounds-cells-first
-offset_bounds-cells-first c = omega (arith, c.requires.0.whole, c.type_inv.0.1)
+offset_bounds-cells-first c = omega (arith, c.requires.0.whole, c.type_inv.cells)
 
 pub bounds-cells-first : goal.bounds-cells-first
 bounds-cells-first c = omega (arith, c.requires.0.whole)
@@ -42,7 +41,7 @@ pub bounds-out-next : goal.bounds-out-next
 bounds-out-next c = omega (arith, lining_room c.loop-cell.invariant c.loop-cell-test.true)
 
 pub offset_bounds-cells-cell : goal.offset_bounds-cells-cell
-offset_bounds-cells-cell c = omega (arith, c.loop-cell.invariant.inside, c.loop-cell-test.true, c.type_inv.0.1)
+offset_bounds-cells-cell c = omega (arith, c.loop-cell.invariant.inside, c.loop-cell-test.true, c.type_inv.cells)
 
 pub bounds-cells-cell : goal.bounds-cells-cell
 bounds-cells-cell c = omega (arith, c.loop-cell.invariant.inside)
@@ -56,7 +55,7 @@ number-next-requires c =
 
 pub overflow_add-cell-in-loop-cell : goal.overflow_add-cell-in-loop-cell
 overflow_add-cell-in-loop-cell c =
-    omega (arith, c.loop-cell.invariant.inside, c.loop-cell-test.true, c.type_inv.0.0)
+    omega (arith, c.loop-cell.invariant.inside, c.loop-cell-test.true, c.type_inv.cells)
 
 pub loop-cell-preserved : goal.loop-cell-preserved
 loop-cell-preserved c =
@@ -66,7 +65,7 @@ pub bounds-out-next-2 : goal.bounds-out-next-2
 bounds-out-next-2 c = lining_end_room c.loop-cell.invariant
 
 pub overflow_add-result : goal.overflow_add-result
-overflow_add-result c = omega (arith, lining_end_room c.loop-cell.invariant, lining_bytes c.loop-cell.invariant, c.type_inv.1.1.0.0)
+overflow_add-result c = omega (arith, lining_end_room c.loop-cell.invariant, lining_bytes c.loop-cell.invariant)
 
 pub shape_of-out : goal.shape_of-out
 shape_of-out c = simp length-set (lining_bytes c.loop-cell.invariant ∙ simp length-set)

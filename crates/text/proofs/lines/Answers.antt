@@ -1,6 +1,5 @@
 -- `lines` prints a line at a time, while there is room for the longest.
 use native.Mathlib.Omega.{arith}
-use Prim.Native.Nat.{◌-◌}
 use Rattle.text.proofs.Lining.{reach_starts, reach_bytes, reach_turn, reach_full, reach_all}
 use Rattle.text.proofs.lines.Goals as goal
 

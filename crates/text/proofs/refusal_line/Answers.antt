@@ -29,7 +29,7 @@ overflow_add-result c =
 
 pub shape_of-out : goal.shape_of-out
 shape_of-out c =
-    simp length-set (c.number-next-2.auto.1.0 ∙ c.put-next-2.auto.1.0 ∙ c.number-next.auto.1.0 ∙ c.put-next.auto.1.0)
+    simp length-set (c.number-next-2.auto.out ∙ c.put-next-2.auto.out ∙ c.number-next.auto.out ∙ c.put-next.auto.out)
 
 pub returns : goal.returns
 returns c =

@@ -26,7 +26,7 @@ bounds-out-next c = count_room c.loop-i.invariant c.requires.1 (omega (arith, c.
 
 pub overflow_add-next : goal.overflow_add-next
 overflow_add-next c =
-    omega (arith, count_room c.loop-i.invariant c.requires.1 (omega (arith, c.first_digit-i.ensures.0)) c.loop-i-test.true, count_bytes c.loop-i.invariant, c.type_inv.1.0.0)
+    omega (arith, count_room c.loop-i.invariant c.requires.1 (omega (arith, c.first_digit-i.ensures.0)) c.loop-i-test.true, count_bytes c.loop-i.invariant)
 
 pub loop-i-preserved : goal.loop-i-preserved
 loop-i-preserved c = count_turn c.loop-i.invariant c.loop-i-test.true c.digit.ensures

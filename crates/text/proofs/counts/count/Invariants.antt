@@ -1,5 +1,4 @@
 -- `count` prints from the first digit that is no zero down: those below i are still to come.
-use Prim.Native.Nat.{◌-◌}
 use Rattle.text.proofs.Counting.{Counting}
 use Rattle.text.proofs.counts.count.Given as goal
 

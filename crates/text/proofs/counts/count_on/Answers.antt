@@ -1,7 +1,6 @@
 -- `count_on` goes from the last digit up: the digits below i are done, and the carry still goes to the others.
 use borrow.Author.Rules.{rules}
 use native.Mathlib.Omega.{arith}
-use Prim.Native.Nat.{◌-◌}
 use Rattle.text.proofs.Counting.{on_starts, on_digit, on_turn, on_ends}
 use Rattle.text.proofs.counts.count_on.Goals as goal
 
