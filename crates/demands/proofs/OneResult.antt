@@ -3,7 +3,7 @@ use mathlib.Core.Path.{◌≡◌, refl, ap₂}
 use mathlib.Core.List.{List}
 use Prim.Native.Nat.{ℕ, ◌+◌}
 use lib.ListN.{length}
-use denote.Ref.{MutBor}
+use denote.Ref.{Bor}
 use Rattle.checking.specs.Verdict as verdict
 use Rattle.checking.specs.Checked.{checked}
 use Rattle.checking.specs.Rows.{view_start, row_view}
@@ -51,12 +51,12 @@ told : (a : Answer) → (answer : code.Answer) × (answer_said answer ≡ a)
 told (listed count ended) = (code.TheVariants.Listed count ended, refl)
 told (refused number place) = (code.TheVariants.Refused number place, refl)
 
-row_just : (file : MutBor (List ℕ)) (person : ℕ) → JustOne (Viewed file person)
+row_just : (file : Bor (List ℕ)) (person : ℕ) → JustOne (Viewed file person)
 row_just file person =
     let at : ℕ × ℕ = (file.ref_ptr.0, view_start (checked file.now) file.now person + file.ref_ptr.1) in
     record {
-      some = ((at, row_view file.now person), (file.ghost_name, record { bytes = refl; lies = refl }));
-      only = λ one other a b. let e = row_one a.1 b.1 in same_two e.1 e.0;
+      some = ((at, row_view file.now person), record { bytes = refl; lies = refl });
+      only = λ one other a b. let e = row_one a b in same_two e.1 e.0;
     }
 
 -- a portion of any listing

@@ -2,7 +2,7 @@
 -- "Every public operation carries a contract that determines the answer and the final contents of each lent cell, for refusals as for
 -- listings. A proof shows that any two results allowed by it are equal".
 use Rattle.std.specs.Prelude.{◌≡◌, List, ℕ}
-use Rattle.std.specs.Borrow.{GName, Bor, MutBor}
+use Rattle.std.specs.Borrow.{Bor}
 use Rattle.checking.specs.Answers.{Checks, Views}
 use Rattle.checking.specs.declared.Verdict.{Verdict}
 use Rattle.question.specs.declared.Question.{Question}
@@ -21,10 +21,9 @@ pub record JustOne {R : Type 0} (Allowed : R → Type 0) : Type 0 where
   pub some : (result : R) × Allowed result
   pub only : (one other : R) → Allowed one → Allowed other → one ≡ other
 
--- a row view by its address in the lent file and its bytes. The name under which the logic tracks a reference is no value that a program
--- has, and nothing is said of it
-abbrev pub Viewed : MutBor (List ℕ) → ℕ → (ℕ × ℕ) × List ℕ → Type 0
-Viewed file person view = (name : GName) × Views file person (record { ref_ptr = view.0; ghost_name = name; now = view.1 })
+-- a row view by its address in the lent file and its bytes
+abbrev pub Viewed : Bor (List ℕ) → ℕ → (ℕ × ℕ) × List ℕ → Type 0
+Viewed file person view = Views file person (record { ref_ptr = view.0; now = view.1 })
 
 pub record OneResult : Type 0 where
   -- check: the answer
