@@ -1,3 +1,5 @@
+#![tactic(auto)]
+
 // The cases P1 to P12 of the customer's document, and those of the requests, on the six-person file.
 // specs/ has the file's 188 bytes, laid out as the document writes them, and one table with a row for each case: its question,
 // its room and bookmark where it speaks of them, and what must come out. `AllHold` says of the whole table, in the definitions

@@ -3,6 +3,7 @@
 // without cell rows[p + 1]: the persons that p's admitted links lead to, strictly rising. specs/ says how the arrays
 // are read as a function from a person to persons (`graph_of`), and when they are well formed (`Compact`).
 // There is no code here: `question` fills the arrays, and every room that goes by links reads them.
+#![tactic(auto)]
 
 use ways::{LINKS as MOST_LINKS, PERSONS as MOST_PERSONS};
 

@@ -32,7 +32,7 @@ use Rattle.distance.specs.Answers as distance
 use Rattle.portion.specs.Listing.{listing_for, portion_fault, portion_numbers, portion_for, ended_for}
 use Rattle.listing.specs.Portions.{Start, refusal_of, portion_of, ended_of}
 use Rattle.listing.specs.Answers.{PortionOf}
-use Rattle.refusals.specs.Answers.{Answer, listed, refused, answer_said, answer_for}
+use Rattle.refusals.specs.Answers.{Answer, listed, answer_said, answer_for}
 use Rattle.refusals.specs.declared.Answer as code
 use Rattle.portion.proofs.Instance.{portion_numbered, chains-listing}
 use Rattle.rings.specs.Rings.{rings_numbers}

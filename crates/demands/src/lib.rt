@@ -1,3 +1,5 @@
+#![tactic(auto)]
+
 // The roof: the customer's three demands as three statements, the same of rings, that each promise allows one result only, what a question's
 // eighth number does, and what is told at the C door.
 // A reader starts in specs/: `Demands` lays each of the customer's sentences above what is proved, in the words of `Paths`, `OneResult` and the

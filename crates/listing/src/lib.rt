@@ -1,3 +1,5 @@
+#![tactic(auto)]
+
 // The listing: portions of any list of chains that rises strictly and whose chains fit a record.
 //
 // What a start is and when it is refused, what a portion answers and writes, that it allows one result only, that calls laid end to end

@@ -3,6 +3,7 @@
 // Every refusal of the house has a number and a place. specs/ says how looks are laid one behind the other, so that the first that finds
 // a fault decides, and what a listing answers where there is none; proofs/ has the laws of both, for every room above. There is no code
 // here but the two types.
+#![tactic(auto)]
 
 // What a look at one place finds: nothing wrong, or the number of a refusal and its place.
 #[derive(Clone, Copy)]

@@ -17,7 +17,6 @@ use Rattle.ways.specs.Halves.{HalfChain, persons_below, all_half_chains}
 use Rattle.ways.specs.Join.{LeftHalf, onward, left_halves}
 use Rattle.ways.proofs.Members.{flat_map_in, flat_map_from, among_false, out_among, out}
 use Rattle.ways.proofs.Cut.{last_or_last, last_last_or}
-use Rattle.ways.proofs.Way.{ends}
 use Rattle.ways.proofs.Rising.{only}
 use Rattle.ways.proofs.Ordered.{before_asym, rising_map, unless_from, unless-row}
 use Rattle.ways.proofs.Halves.{below_persons, persons_rising, all_half_chains_rising, all_half_chains_from, all_half_chains_in}

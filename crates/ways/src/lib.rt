@@ -4,6 +4,7 @@
 // any function from a person to the persons that the person has links to. proofs/ has the laws that all rooms cite:
 // the listing holds every chain and nothing else, in dictionary order, and no other list does; so do the rings; portions
 // laid end to end give it back; half chains join to it; and a search may leave out what has no way to the end.
+#![tactic(auto)]
 
 // A chain record has ten cells: the hops, the persons, zeros.
 pub const RECORD: usize = 10;
