@@ -10,7 +10,7 @@ pub overflow_mul-first : goal.overflow_mul-first
 overflow_mul-first c = omega (arith, c.requires.0.whole)
 
 pub offset_bounds-cells-first : goal.offset_bounds-cells-first
-offset_bounds-cells-first c = omega (arith, c.requires.0.whole, c.type_inv.cells)
+offset_bounds-cells-first c = omega (arith, c.requires.0.whole)
 
 pub bounds-cells-first : goal.bounds-cells-first
 bounds-cells-first c = omega (arith, c.requires.0.whole)
@@ -41,7 +41,7 @@ pub bounds-out-next : goal.bounds-out-next
 bounds-out-next c = omega (arith, lining_room c.loop-cell.invariant c.loop-cell-test.true)
 
 pub offset_bounds-cells-cell : goal.offset_bounds-cells-cell
-offset_bounds-cells-cell c = omega (arith, c.loop-cell.invariant.inside, c.loop-cell-test.true, c.type_inv.cells)
+offset_bounds-cells-cell c = omega (arith, c.loop-cell.invariant.inside, c.loop-cell-test.true)
 
 pub bounds-cells-cell : goal.bounds-cells-cell
 bounds-cells-cell c = omega (arith, c.loop-cell.invariant.inside)
@@ -55,7 +55,7 @@ number-next-requires c =
 
 pub overflow_add-cell-in-loop-cell : goal.overflow_add-cell-in-loop-cell
 overflow_add-cell-in-loop-cell c =
-    omega (arith, c.loop-cell.invariant.inside, c.loop-cell-test.true, c.type_inv.cells)
+    omega (arith, c.loop-cell.invariant.inside, c.loop-cell-test.true)
 
 pub loop-cell-preserved : goal.loop-cell-preserved
 loop-cell-preserved c =

@@ -14,13 +14,13 @@ loop-half-init c = arrive_start c.requires c.if-trace-eq0.false
 
 -- a right half whose record ends in the working cells
 pub overflow_mul-from : goal.overflow_mul-from
-overflow_mul-from c = omega (arith, pair_fits c.loop-half.invariant c.loop-half-test.true, c.type_inv.halves)
+overflow_mul-from c = omega (arith, pair_fits c.loop-half.invariant c.loop-half-test.true)
 
 pub overflow_add-from : goal.overflow_add-from
-overflow_add-from c = omega (arith, pair_fits c.loop-half.invariant c.loop-half-test.true, c.type_inv.halves)
+overflow_add-from c = omega (arith, pair_fits c.loop-half.invariant c.loop-half-test.true)
 
 pub overflow_add-half : goal.overflow_add-half
-overflow_add-half c = omega (arith, pair_fits c.loop-half.invariant c.loop-half-test.true, c.type_inv.halves)
+overflow_add-half c = omega (arith, pair_fits c.loop-half.invariant c.loop-half-test.true)
 
 pub hand_over-got-requires : goal.hand_over-got-requires
 hand_over-got-requires c = pair_room c.loop-half.invariant c.loop-half-test.true (eq-eqb c.loop-half.got.more 0 c.if-got-eq0.true)
@@ -40,13 +40,13 @@ pub overflow_sub-place : goal.overflow_sub-place
 overflow_sub-place c = (arrive_place c.requires c.if-trace-eq0.false).0
 
 pub offset_bounds-index-place : goal.offset_bounds-index-place
-offset_bounds-index-place c = omega (arith, (arrive_place c.requires c.if-trace-eq0.false).1, c.type_inv.index)
+offset_bounds-index-place c = omega (arith, (arrive_place c.requires c.if-trace-eq0.false).1)
 
 pub bounds-index-place : goal.bounds-index-place
 bounds-index-place c = omega (arith, (arrive_place c.requires c.if-trace-eq0.false).1)
 
 pub offset_bounds-index-place-2 : goal.offset_bounds-index-place-2
-offset_bounds-index-place-2 c = omega (arith, (arrive_place c.requires c.if-trace-eq0.false).1, c.type_inv.index)
+offset_bounds-index-place-2 c = omega (arith, (arrive_place c.requires c.if-trace-eq0.false).1)
 
 pub bounds-index-place-2 : goal.bounds-index-place-2
 bounds-index-place-2 c = (arrive_place c.requires c.if-trace-eq0.false).1
