@@ -4,6 +4,7 @@
 #include <algorithm>
 #include <map>
 #include <random>
+#include <string>
 #include <vector>
 
 using Bytes = std::vector<uint8_t>;
@@ -84,6 +85,79 @@ inline Links many_into_dead(int many) {
     link_all(l, region, to);
     for (int p = region; p < to; ++p) link(l, p, 1);
     return l;
+}
+
+// 0 to b, b to the heads, who are all linked, each head to leaves of its own, each leaf back to b; b to t, the last person, in so
+// many hops.
+inline Links heads_and_leaves(int heads, int leaves, int before) {
+    const int first = 2 + heads, tail = first + heads * leaves;
+    Links l(tail + before);
+    link(l, 0, 1);
+    link_all(l, 1, first);
+    for (int head = 2; head < first; ++head) l[head].erase(1);
+    for (int p = first; p < tail; ++p) {
+        link(l, 2 + (p - first) / leaves, p);
+        link(l, p, 1);
+    }
+    link(l, 1, tail);
+    for (int p = tail; p + 1 < tail + before; ++p) link(l, p, p + 1);
+    return l;
+}
+
+// A grid of villages, each of five persons all linked; neighbours are tied twice, both ways, by persons drawn at random. 0 leads
+// to the first person of each village and to t, the last person; everybody in the villages leads back to 0.
+inline Links villages(int across, int down, unsigned seed) {
+    const int size = 5, to = 1 + across * down * size;
+    std::mt19937 r(seed);
+    Links l(to + 1);
+    auto tie = [&](int village, int other) {
+        const int p = 1 + village * size + int(r() % size), q = 1 + other * size + int(r() % size);
+        link(l, p, q);
+        link(l, q, p);
+    };
+    for (int village = 0; village < across * down; ++village) {
+        const int first = 1 + village * size;
+        link(l, 0, first);
+        link_all(l, first, first + size);
+        for (int p = first; p < first + size; ++p) link(l, p, 0);
+        for (int i = 0; i < 2; ++i) {
+            if (village + down < across * down) tie(village, village + down);
+            if (village % down + 1 < down) tie(village, village + 1);
+        }
+    }
+    link(l, 0, to);
+    return l;
+}
+
+// 0 to six siblings all linked, the last of them to leaves; 0 to the first of some persons all linked; leaves and these persons
+// lead back to 0, who leads to t, the last person. With each hop more each leaf's barrier is raised again, and the persons all
+// linked come only then.
+inline Links leaves_then_dense(int leaves, int dense) {
+    const int first = 7, region = first + leaves, to = region + dense;
+    Links l(to + 1);
+    link_all(l, 1, first);
+    for (int p = 1; p < first; ++p) link(l, 0, p);
+    for (int p = first; p < region; ++p) link(l, first - 1, p);
+    link(l, 0, region);
+    link_all(l, region, to);
+    for (int p = first; p < to; ++p) link(l, p, 0);
+    link(l, 0, to);
+    return l;
+}
+
+struct Named {
+    std::string name;
+    Links links;
+};
+
+// Dead regions in which a trail grows long: at 8 hops to 1,891, 3,658, 2,702 and 2,835 entries, where it has room for them.
+inline std::vector<Named> long_trails() {
+    return {
+        {"961 persons behind one, who is three hops before To", heads_and_leaves(31, 30, 3)},
+        {"961 persons behind one, who is next to To", heads_and_leaves(31, 30, 1)},
+        {"14 by 8 villages, all lead back to From", villages(14, 8, 1)},
+        {"550 leaves, then 16 persons all linked", leaves_then_dense(550, 16)},
+    };
 }
 
 // The last person made one with person 0: each chain from 0 to the last person that has two hops or more is a ring of 0, and there

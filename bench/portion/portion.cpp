@@ -38,6 +38,11 @@ static void dead_regions() {
         against_plain(PORTION, ", the weak place: " + std::to_string(many) + " lead to To and into one dead region",
                       {weak, asked(0, uint32_t(2 + many + 50), 8), nullptr}, 1000, "");
     }
+    for (auto &region : long_trails()) {
+        Bytes deep = file_of(region.links);
+        against_plain(PORTION, ": dead, " + region.name + ", 8 hops",
+                      {deep, asked(0, uint32_t(region.links.size() - 1), 8), nullptr}, 40, SEARCH);
+    }
 }
 
 static void room_of_forty() {

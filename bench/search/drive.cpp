@@ -57,6 +57,8 @@ static void whole_listings() {
             against_plain("1,024 persons, 4,096 links at random (" + std::to_string(seed) + ")",
                           Graph(random_links(1024, 4096, seed)), 0, int(1023 - seed), k, 10000);
     against_plain("the dead region", Graph(dead_region()), 0, 65, 8, 10);
+    for (auto &region : long_trails())
+        against_plain("dead, " + region.name, Graph(region.links), 0, int(region.links.size()) - 1, 8, 10);
 }
 
 static void room_of_forty() {

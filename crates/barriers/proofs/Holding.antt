@@ -1,12 +1,12 @@
 -- Barriers that hold: at first, while persons are entered, and when one is left.
-use mathlib.Core.Path.{◌≡◌, refl, ap, ◌∙◌}
+use mathlib.Core.Path.{◌≡◌, refl, sym, ap, ◌∙◌}
 use mathlib.Core.Bool.{Bool, true}
 use mathlib.Core.List.Memᴰ
 use mathlib.Core.List.{List, [], ◌∷◌}
 use mathlib.Core.Logic.{⊎_elim, ◌⊎◌, inl, inr}
 use Prim.Native.Nat.{ℕ, suc, ◌+◌, ◌≤◌, ◌<◌}
 use lib.ListN.{length, get_or, set, length-set, get_or-eq_default}
-use lib.Seq.{slice, get_or-set_same, get_or-set_other}
+use lib.Seq.{slice, get_or-set_same, get_or-set_other, ext_get_or}
 use native.Mathlib.Omega.{arith}
 use Rattle.ways.specs.Graph.{Graph}
 use Rattle.ways.specs.Listing.{ways}
@@ -17,10 +17,11 @@ use Rattle.ways.proofs.Members.{within-cons}
 use Rattle.ways.proofs.Reach.{round_zero}
 use Rattle.ways.proofs.Fewest.{fewest_cap, fewest_in, fewest_near, none_fewest}
 use Rattle.compact.specs.Compact.{persons}
-use Rattle.barriers.specs.Trail.{heights, unwind, Raised}
+use Rattle.barriers.specs.Trail.{heights, unwind, Undoable, Raised}
 use Rattle.barriers.specs.Barriers.{Hold, Kept, Barred}
 use Rattle.barriers.specs.Settling.{Settling, Settled}
-use Rattle.barriers.proofs.Unwinding.{trailed_none, trailed_trans, trailed_undo}
+use Rattle.barriers.specs.Squeezing.{Squeezed}
+use Rattle.barriers.proofs.Unwinding.{trailed_none, trailed_trans, trailed_shorter, trailed_undo}
 
 -- ---- at first: the fewest hops hold, whoever was seen
 
@@ -75,6 +76,15 @@ module _ {g : Graph} {t : ℕ} {seen : List ℕ} where
     kept = kept_trans p.kept q.kept;
     trailed = trailed_trans p.trailed q.trailed;
   }
+
+  -- the trail was squeezed from where it began
+  pub barred_squeezed : {h : ℕ} {a b b' ta tb tc : List ℕ} {na nb nc : ℕ} → Barred g t seen h a b ta tb na nb → Squeezed b b' tb tc na nb nc → Barred g t seen h a b' ta tc na nc
+  barred_squeezed {b = b} {b'} p s =
+      let same : b' ≡ b = ext_get_or 0 b' b (s.wide ∙ sym p.hold.long) (λ v h. s.same v (p.hold.low v)) in
+      record { hold = rw same p.hold; kept = rw same p.kept; trailed = rw same (trailed_shorter p.trailed p.hold.low s.shorter) }
+
+  pub barred_undoable : {h : ℕ} {a b ta tb : List ℕ} {na nb : ℕ} → Barred g t seen h a b ta tb na nb → Undoable b tb na nb
+  barred_undoable p = record { wide = p.hold.long; rise = p.trailed.rise; fits = p.trailed.fits; entries = p.trailed.entries }
 
   -- once v is in the chain: that only takes ways away
   pub hold_push : {barriers : List ℕ} (v : ℕ) → Hold g t seen barriers → Hold g t (v ∷ seen) barriers

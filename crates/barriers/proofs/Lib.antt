@@ -1,3 +1,4 @@
 -- The laws of barriers that a search cites (Holding), and those of the trail, for this room alone.
-mod Unwinding
+pub mod Unwinding
+mod Firsts
 pub mod Holding

@@ -1,5 +1,5 @@
 -- The trail leads back.
-use mathlib.Core.Path.{◌≡◌, refl, sym, ap, ◌∙◌}
+use mathlib.Core.Path.{◌≡◌, refl, sym, ap, subst, ◌∙◌}
 use mathlib.Core.List.{List, [], ◌∷◌, ◌++◌}
 use mathlib.Core.Logic.{⊎_elim, inl, inr}
 use Prim.Native.Nat.{ℕ, ◌+◌, ◌-◌, ◌*◌, ◌/◌, ◌%◌, ◌≤◌, ◌<◌}
@@ -10,8 +10,9 @@ use native.Mathlib.Numerals.{add-one}
 use Rattle.ways.proofs.Cases.{lt_or_le}
 use Rattle.compact.specs.Compact.{persons}
 use Rattle.barriers.specs.Trail.{heights, unwind, Entries, Trailed, Restorable, Undoable, Raising, Raised}
+use Rattle.barriers.specs.Squeezing.{Flat, Shorter}
 
-unwind-append : (xs ys barriers : List ℕ) → unwind (xs ++ ys) barriers ≡ unwind xs (unwind ys barriers)
+pub unwind-append : (xs ys barriers : List ℕ) → unwind (xs ++ ys) barriers ≡ unwind xs (unwind ys barriers)
 unfolding unwind
 unwind-append [] ys barriers = refl
 unwind-append (e ∷ xs) ys barriers = rw (unwind-append xs ys barriers)
@@ -55,6 +56,17 @@ module _ {t₀ : List ℕ} {n₀ : ℕ} {b₀ t₁ : List ℕ} {n₁ : ℕ} {b�
     where
       same : (i : ℕ) → i < n₁ → get_or t₂ i 0 ≡ get_or t₁ i 0
       same i m = sym (get_or-take n₁ t₂ i 0 m) ∙ ap (λ (l : List ℕ). get_or l i 0) q.keeps ∙ get_or-take n₁ t₁ i 0 m
+
+  -- the entries that stood before are entries still, with the new ones behind them
+  pub entries_on : {base : ℕ} → Entries t₀ base n₀ → Entries t₁ base n₁
+  entries_on es = record { each = λ i l h. ⊎_elim (λ m. subst (λ (x : ℕ). x < persons * heights) (sym (before i m)) (es.each i l m)) (λ m. p.entries.each i m h) (lt_or_le i n₀) }
+    where
+      before : (i : ℕ) → i < n₀ → get_or t₁ i 0 ≡ get_or t₀ i 0
+      before i m = sym (get_or-take n₀ t₁ i 0 m) ∙ ap (λ (l : List ℕ). get_or l i 0) p.keeps ∙ get_or-take n₀ t₀ i 0 m
+
+  -- fewer entries that lead back to the same barriers
+  pub trailed_shorter : {t₂ : List ℕ} {n₂ : ℕ} → Flat b₁ → Shorter b₁ t₁ t₂ n₀ n₁ n₂ → Trailed t₀ n₀ b₀ t₂ n₂ b₁
+  trailed_shorter flat s = record { rise = s.rise; fits = s.fits; long = s.long ∙ p.long; keeps = s.keeps ∙ p.keeps; entries = s.entries; back = s.back flat b₁ ∙ p.back }
 
   -- the barriers put back
   pub trailed_undo : {b₂ : List ℕ} → b₂ ≡ unwind (slice n₀ n₁ t₁) b₁ → Trailed t₀ n₀ b₀ t₁ n₀ b₂

@@ -2,3 +2,4 @@
 pub mod Trail
 pub mod Barriers
 pub mod Settling
+pub mod Squeezing

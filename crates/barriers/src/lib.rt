@@ -3,16 +3,18 @@
 // A person's barrier says that To is not reached from there, past those in the chain, in fewer hops. Barriers start as the fewest hops,
 // and a search raises them where it found nothing. What was raised while a person stood in the chain need not hold once that person is
 // left, so the trail keeps what the barriers were.
-// One face, `settle`. Its promise says what becomes of barriers and trail when a person is left: they hold again, none that is new is
-// high, and the trail leads back. How that is done is this room's own affair. The trail is lent, of any length: while it is full no barrier
-// is raised, and a search then takes longer and loses nothing.
+// `settle` says what becomes of barriers and trail when a person is left: they hold again, none that is new is high, and the trail leads
+// back. How that is done is this room's own affair. `squeeze` shortens the trail: it leads back to the same barriers. The trail is lent, of any
+// length: while it is full no barrier is raised, and a search then takes longer and loses nothing.
 #![tactic(auto)]
 
 ghost use Rattle.barriers.specs.Settling.{Settling, Settled};
 
+mod squeezing;
 mod trail;
 
 use compact::PERSONS;
+pub use squeezing::squeeze;
 
 // Settles the barriers when v is left, who was entered with `left` hops still allowed: the trail had `low` entries then and has
 // `high` now. `barren` says that no way led on from v. Returns how many entries the trail has from now on.

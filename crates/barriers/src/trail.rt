@@ -7,7 +7,7 @@ use compact::PERSONS;
 
 // Barriers are 0 to 15. An entry is the person times 16 and the old barrier: the old one lies in the lowest four bits, the person above
 // them. A barrier is at most the hops and one more, and 1,024 times 16 fits a cell of 16 bits.
-const HEIGHTS: usize = 16;
+pub const HEIGHTS: usize = 16;
 
 // Puts one barrier back. Nothing is tested: the trail holds entries of persons alone.
 fn restore(barriers: &mut [u8; PERSONS], entry: u16)
@@ -30,7 +30,7 @@ pub fn undo(barriers: &mut [u8; PERSONS], trail: &[u16], low: usize, high: usize
     }
 }
 
-fn wide(x: u8) -> usize
+pub fn wide(x: u8) -> usize
     ensures { result ≡ x }
 {
     x as usize

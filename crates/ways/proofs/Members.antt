@@ -55,6 +55,18 @@ out_among {p} {l} n = go (among p l) refl
     go true h = absurd (n (among_true p l h))
     go false h = h
 
+-- whether p is at the end or before is asked in any order
+pub among_end : (p q : ℕ) (l : List ℕ) → among p (l ++ q ∷ []) ≡ among p (q ∷ l)
+unfolding among
+among_end p q [] = refl
+among_end p q (r ∷ l) = go (eqb p q) (eqb p r) (among_end p q l)
+  where
+    go : (b c : Bool) → among p (l ++ q ∷ []) ≡ cond b true (among p l) → cond c true (among p (l ++ q ∷ [])) ≡ cond b true (cond c true (among p l))
+    go true true e = refl
+    go true false e = e
+    go false true e = refl
+    go false false e = e
+
 -- neither v nor in l
 pub out : {x v : ℕ} {l : List ℕ} → x ≢ v → ¬ (x ∈ l) → ¬ (x ∈ v ∷ l)
 out n o (Memᴰ.head e) = n e
