@@ -1,6 +1,6 @@
 #!/usr/bin/env bash
 # Prints how much stack every exported function takes, answered and refused, and the least limit under which the program `chains`
-# runs. The static library and target/bin/chains have to stand. Never part of pass or fail. Where the bytes go, bench/stack/where.sh tells.
+# runs. The static library and target/bin/chains have to stand. Never part of pass or fail.
 set -eu
 cd "$(dirname "${BASH_SOURCE[0]}")/../.."
 
@@ -15,7 +15,7 @@ runs() {
   done
 }
 least() {
-  local limit=128
+  local limit=256
   while ! runs "$limit" "$1"; do limit=$((limit + 4)); done
   echo "$limit"
 }

@@ -83,14 +83,8 @@ static uint64_t join(const Bytes &file, const question &q, size_t cells) {
                     working.data(), cells, out.data(), out.size());
 }
 
-static Bytes dense_file() { return file_of(filled_up(all_linked(64))); }
-
-static std::string after_bookmark(const Bytes &dense, const question &q) {
-    return answered([&] { return portion(dense, q, &BOOKMARK); });
-}
-
 static void rows() {
-    const Bytes none(31), dense = dense_file(), small = file_of(all_linked(12));
+    const Bytes none(31), dense = file_of(filled_up(all_linked(64))), small = file_of(all_linked(12));
     const question one = asked(0, 63, 1), four = asked(0, 63, 4), eight = asked(0, 63, 8);
     const question neither = {0, 63, 8, 15, 1, 1, LAST_DAY, 2};
     Bytes late = dense;
@@ -109,7 +103,7 @@ static void rows() {
     row({"portion", cell(1, [&] { return portion(none, eight, nullptr); }),
          cell(17, [&] { return portion(dense, eight, &NO_CHAIN); }),
          answered([&] { return portion(dense, one, nullptr); }), answered([&] { return portion(dense, four, nullptr); }),
-         answered([&] { return portion(dense, eight, nullptr); }), after_bookmark(dense, eight)});
+         answered([&] { return portion(dense, eight, nullptr); }), answered([&] { return portion(dense, eight, &BOOKMARK); })});
     row({"rings", cell(1, [&] { return rings(none, 8, nullptr); }), cell(17, [&] { return rings(dense, 8, &NO_RING); }),
          answered([&] { return rings(dense, 1, nullptr); }), answered([&] { return rings(dense, 4, nullptr); }),
          answered([&] { return rings(dense, 8, nullptr); }), answered([&] { return rings(dense, 8, &RING); })});
@@ -125,14 +119,9 @@ static void rows() {
          cell(18, [&] { return join(small, asked(0, 11, 8), (half_chains - 1) * RECORD); }), joined(1), joined(4), joined(8)});
 }
 
-// With the word `input`, an input of the program: four portions, one of them after a bookmark of 8 hops. With the word `portion`, the
-// portion after a bookmark alone: the mark, and where the frame of the caller is.
-int main(int words, char **word) {
+// With the word `input`, an input of the program with chains of 8 hops in many portions.
+int main(int words, char **) {
     if (words == 1) return rows(), 0;
-    if (word[1] == std::string("portion")) {
-        const std::string mark = after_bookmark(dense_file(), asked(0, 63, 8));
-        return printf("%s %p\n", mark.c_str(), static_cast<void *>(caller)), 0;
-    }
-    const Bytes input = input_of(asked(0, 8, 8), file_of(all_linked(9)));
+    const Bytes input = input_of(asked(0, 11, 8), file_of(all_linked(12)));
     fwrite(input.data(), 1, input.size(), stdout);
 }
