@@ -31,10 +31,10 @@ module _ (file : List ℕ) (q : Question) (p : ℕ) where
 
   pub fewest_from : FewestFrom file q p (fewest (next file q) q.to q.hops p)
   fewest_from =
-      let up_to_lem = fewest_up_to (next file q) q.to q.hops p in
+      let far = fewest_up_to (next file q) q.to q.hops p in
       record {
-        most = omega (arith, up_to_lem.cap);
-        way = λ h. let way = reach_way (up_to_lem.reach h) in (way.0, way.1, omega (arith, way.2, least way.0 way.1 (omega (arith, way.2))));
+        most = omega (arith, far.cap);
+        way = λ h. let way = reach_way (far.reach h) in (way.0, way.1, omega (arith, way.2, least way.0 way.1 (omega (arith, way.2))));
         least = least;
         to_itself = λ e. fewest_end (next file q) q.to q.hops p e;
       }

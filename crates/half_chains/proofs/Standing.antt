@@ -134,11 +134,11 @@ module _ {rows targets : List ℕ} {sought : Sought} (k : Seeking rows targets s
   abbrev all : List (List ℕ)
   all = halves (graph_of rows targets) sought.persons sought.from sought.to sought.hops
 
-  pub all_fit : (h : List ℕ) → h ∈ all → Fits record_size h
-  all_fit h m = half_fits (graph_of rows targets) sought.persons sought.from sought.to k.differ k.low sought.hops record_size (omega (arith, k.few)) h m
+  pub all_fit_lem : (h : List ℕ) → h ∈ all → Fits record_size h
+  all_fit_lem h m = half_fits (graph_of rows targets) sought.persons sought.from sought.to k.differ k.low sought.hops record_size (omega (arith, k.few)) h m
 
   all_people : (h : List ℕ) → h ∈ all → Fits record_size h × ((x : ℕ) → x ∈ h → x < persons)
-  all_people h m = let r = ((halves_exact (graph_of rows targets) sought.persons sought.from sought.to k.differ k.low sought.hops h).0 m).0 in (all_fit h m, half_people h r.last r.linked)
+  all_people h m = let r = ((halves_exact (graph_of rows targets) sought.persons sought.from sought.to k.differ k.low sought.hops h).0 m).0 in (all_fit_lem h m, half_people h r.last r.linked)
 
   -- those of j hops that start at p, without p
   abbrev rest_from : ℕ → ℕ → List (List ℕ)
@@ -234,8 +234,8 @@ module _ {rows targets : List ℕ} {sought : Sought} (k : Seeking rows targets s
           ∙ ap (λ (m : ℕ). rests_of (written record_size all working) (suc j) m (length b)) (notes j p h (omega arith))
           ∙ ap (λ (x : List (List ℕ)). rests_of (cells_of record_size x ++ drop (length all * record_size) working) (suc j) (length a) (length b)) q.1
           ∙ rests_cells (suc j) a b q.0 (drop (length all * record_size) working)
-          (λ d m. all_fit d (subst (λ x. d ∈ x) (sym q.1) (Memᴰ.append_left (b ++ q.0) m)))
-          (λ d m. (all_fit d (subst (λ x. d ∈ x) (sym q.1) (Memᴰ.append_right a (Memᴰ.append_left q.0 m))), let r = Memᴰ.of_map (◌∷◌ p) (rest_from (suc j) p) m in subst (λ x. hops x ≡ suc j) r.2 (rest-hops (suc j) p r.0 r.1)))
+          (λ d m. all_fit_lem d (subst (λ x. d ∈ x) (sym q.1) (Memᴰ.append_left (b ++ q.0) m)))
+          (λ d m. (all_fit_lem d (subst (λ x. d ∈ x) (sym q.1) (Memᴰ.append_right a (Memᴰ.append_left q.0 m))), let r = Memᴰ.of_map (◌∷◌ p) (rest_from (suc j) p) m in subst (λ x. hops x ≡ suc j) r.2 (rest-hops (suc j) p r.0 r.1)))
           ∙ map-map behind (◌∷◌ p) (rest_from (suc j) p)
           ∙ same (rest_from (suc j) p)
           ∙ sym (starting_half (suc j) p ∙ rw (lt-ltb p sought.persons l))
@@ -253,7 +253,7 @@ module _ {rows targets : List ℕ} {sought : Sought} (k : Seeking rows targets s
       rights_index (suc j) h p l = rw (ne_eqb (suc j) 0 (λ e. omega arith)) (⊎_elim (rights_file j p (omega arith)) (λ i. rights_other j p i l) (lt_or_le p sought.persons))
 
       written_long : length (written record_size all working) ≡ length working
-      written_long = length-written record_size all working all_fit room
+      written_long = length-written record_size all working all_fit_lem room
 
       -- no end of the index is behind all
       ends : (j p : ℕ) → j < sought.hops / 2 → p < persons → get_or index (place_of (suc j) p + 1) 0 ≤ length all
@@ -272,6 +272,6 @@ module _ {rows targets : List ℕ} {sought : Sought} (k : Seeking rows targets s
         within = omega (arith, wide, h, k.few);
         there = λ p l. omega (arith, ends j p (omega arith) l, room, written_long);
         people = λ p l c m.
-            let inside : c < length (cells_of record_size all) = omega (arith, length-cells_of record_size all all_fit, ends j p (omega arith) l, m) in
+            let inside : c < length (cells_of record_size all) = omega (arith, length-cells_of record_size all all_fit_lem, ends j p (omega arith) l, m) in
             rw (get_or-append (cells_of record_size all) (drop (length all * record_size) working) 0 c inside) (cells_people all all_people (get_or (cells_of record_size all) c 0) (get_or_in (cells_of record_size all) c inside));
       }

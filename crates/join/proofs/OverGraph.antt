@@ -35,7 +35,7 @@ use Rattle.half_chains.proofs.Shelving.{shorter_from}
 use Rattle.traces.proofs.Meeting.{meet_all}
 use Rattle.pages.proofs.Recording.{records_blank, records_first}
 use Rattle.pages.proofs.Handing.{emits_cells, emits-noted, emits-written}
-use Rattle.half_chains.proofs.Standing.{all_halves, all_fit, rights_index, indexed_halves}
+use Rattle.half_chains.proofs.Standing.{all_halves, all_fit_lem, rights_index, indexed_halves}
 
 -- an index with nothing in it
 abbrev pub blank_index : List ℕ
@@ -66,7 +66,7 @@ module _ {rows targets : List ℕ} {sought : Sought} (k : Seeking rows targets s
   graph_shelve i = record { seeking = k; within = omega (arith, i, length-replicate {A = ℕ} (most_hops / 2 * suc persons) 0) }
 
   shelved_halves : map (record_with blank 0) (shelf_of (graph_of rows targets) sought.persons sought.to (from_marked sought.from) (sought.hops / 2)) ≡ map (record_of record_size) (halves_in rows targets sought.persons sought.from sought.to sought.hops)
-  shelved_halves = rw (all_halves k (from_marked sought.from) from_marked_lem) (records_blank (halves_in rows targets sought.persons sought.from sought.to sought.hops) (all_fit k))
+  shelved_halves = rw (all_halves k (from_marked sought.from) from_marked_lem) (records_blank (halves_in rows targets sought.persons sought.from sought.to sought.hops) (all_fit_lem k))
 
   module _ {index working working₁ : List ℕ} {counted : HandedOver} (c : Shelved rows targets blank_index index working working₁ sought 0 counted) where
     -- only counted: no cell has changed
@@ -78,7 +78,7 @@ module _ {rows targets : List ℕ} {sought : Sought} (k : Seeking rows targets s
         ap (λ (q : Page). q.more) c.right
         ∙ ap (λ (l : List (List ℕ)). (emits 0 (length working / record_size) (page nothing working) l).more) shelved_halves
         ∙ emits-noted (length working / record_size) (map (record_of record_size) (halves_in rows targets sought.persons sought.from sought.to sought.hops)) 0 0 working working
-        ∙ ap (λ (q : Page). q.more) (emits-written working (halves_in rows targets sought.persons sought.from sought.to sought.hops) (all_fit k))
+        ∙ ap (λ (q : Page). q.more) (emits-written working (halves_in rows targets sought.persons sought.from sought.to sought.hops) (all_fit_lem k))
 
     -- too many for the working cells
     pub graph_refused : {out : List ℕ} → (counted.more ≡ 0 → ⊥) → JoinsIn rows targets sought.persons sought.from sought.to sought.hops working working₁ out out (code.TheVariants.Refused 18 0)
@@ -99,7 +99,7 @@ module _ {rows targets : List ℕ} {sought : Sought} (k : Seeking rows targets s
           w.right
           ∙ ap (λ (l : List ℕ). emits 1 (length l / record_size) (page nothing l) (map (record_with blank 0) (shelf_of (graph_of rows targets) sought.persons sought.to (from_marked sought.from) (sought.hops / 2)))) counted_cells
           ∙ ap (emits 1 (length working / record_size) (page nothing working)) shelved_halves
-          ∙ emits-written working (halves_in rows targets sought.persons sought.from sought.to sought.hops) (all_fit k)
+          ∙ emits-written working (halves_in rows targets sought.persons sought.from sought.to sought.hops) (all_fit_lem k)
 
       working_written : working₂ ≡ written record_size (halves_in rows targets sought.persons sought.from sought.to sought.hops) working
       working_written = ap (λ (q : Page). q.cells) page-written ∙ ap (λ (l : List (List ℕ)). written record_size l working) (take_all (length working / record_size) (halves_in rows targets sought.persons sought.from sought.to sought.hops) room)

@@ -22,7 +22,7 @@ use Rattle.listing.specs.Answers.{PortionOf}
 use Rattle.listing.specs.EndToEnd.{Call, count_of, says_ended, start_behind, Run, done, call, all_room, room_in, Laid, ResumedIn}
 use Rattle.listing.proofs.Known.{portion_in_lem, fresh_all, passes, last_kept}
 
-module _ {first : Fault} {chains : List (List ℕ)} (None-first : first ≡ sound) (is : Listing chains) where
+module _ {first : Fault} {chains : List (List ℕ)} (none_first : first ≡ sound) (is : Listing chains) where
   -- what a call that is not refused says and writes
   module _ {start : Start} {out exit : List ℕ} {answer : code.Answer} (p : PortionOf first chains start out exit answer) (none : refusal_of first chains start out ≡ sound) where
     said : answer_said answer ≡ listed (length (portion_of chains start out)) (ended_of chains start out)
@@ -56,7 +56,7 @@ module _ {first : Fault} {chains : List (List ℕ)} (None-first : first ≡ soun
   run_laid (c ∷ calls) start s (call p h r) =
       let left = after (starts_after start) chains in
       let P = portion_of chains start c.out in
-      let none = passes chains None-first start c.out s h in
+      let none = passes chains none_first start c.out s h in
       let tells = said p none in
       let on = behind start P (drop (length P * record_size) c.out) s (λ d m. portion_in_lem chains start c.out m) in
       let next = start_behind start (length P) (cells_of record_size P ++ drop (length P * record_size) c.out) in
