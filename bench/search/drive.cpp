@@ -5,9 +5,10 @@
 #include "../plain/shapes.hpp"
 
 // The proved search, exported for this benchmark alone.
-extern "C" size_t bench_list(const uint16_t *rows, const uint16_t *targets, const uint8_t *fewest, uint32_t from, uint32_t to,
-                             size_t hops, uint32_t started, const uint32_t *bookmark, size_t bookmark_cells, uint32_t *out,
-                             size_t cells);
+extern "C" size_t bench_afresh(const uint16_t *rows, const uint16_t *targets, const uint8_t *fewest, uint32_t from, uint32_t to,
+                               size_t hops, uint32_t *out, size_t cells);
+extern "C" size_t bench_behind(const uint16_t *rows, const uint16_t *targets, const uint8_t *fewest, uint32_t from, uint32_t to,
+                               size_t hops, const uint32_t *bookmark, size_t bookmark_cells, uint32_t *out, size_t cells);
 
 struct Graph {
     uint16_t rows[PERSONS + 1] = {0}, targets[LINKS] = {0};
@@ -30,7 +31,8 @@ struct Graph {
 };
 
 static size_t ours(const Asked &a, uint32_t *out, size_t cells) {
-    return bench_list(a.rows, a.targets, a.fewest, a.from, a.to, a.hops, a.started, a.bookmark, a.bookmark ? 10 : 0, out, cells);
+    if (!a.started) return bench_afresh(a.rows, a.targets, a.fewest, a.from, a.to, a.hops, out, cells);
+    return bench_behind(a.rows, a.targets, a.fewest, a.from, a.to, a.hops, a.bookmark, 10, out, cells);
 }
 
 static void say(const std::string &name, size_t answer, double ours, double other, const std::string &goal) {

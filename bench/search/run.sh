@@ -24,31 +24,53 @@ cat >"$copy/crates/bench_export/src/lib.rt" <<'END'
 // The face of the search for C++, for the benchmark alone.
 #![tactic(auto)]
 
+ghost use Rattle.std.specs.Prelude.{Some, None};
+ghost use Rattle.compact.specs.Compact.{Compact};
 ghost use Rattle.search.specs.Face.{Asked};
 
-use compact::LINKS;
-use compact::PERSONS;
-use compact::STARTS;
+use compact::{Graph, LINKS, PERSONS, STARTS};
+use pages::HandedOver;
+
+fn told(found: HandedOver) -> usize {
+    if found.more {
+        return found.count.wrapping_add(4611686018427387904);
+    }
+    found.count
+}
 
 #[unsafe(no_mangle)]
-pub extern "C" fn bench_list(
-    rows: &[u16; STARTS],
+pub extern "C" fn bench_afresh(
+    starts: &[u16; STARTS],
     targets: &[u16; LINKS],
     fewest: &[u8; PERSONS],
     from: u32,
     to: u32,
     hops: usize,
-    started: u32,
+    out: &mut [u32],
+) -> usize
+    requires graph { Compact starts.now targets.now }
+    requires asked { Asked starts.now targets.now fewest.now from to hops None }
+{
+    let graph = Graph { starts, targets };
+    told(search::list(graph, fewest, from, to, hops, None, out))
+}
+
+#[unsafe(no_mangle)]
+pub extern "C" fn bench_behind(
+    starts: &[u16; STARTS],
+    targets: &[u16; LINKS],
+    fewest: &[u8; PERSONS],
+    from: u32,
+    to: u32,
+    hops: usize,
     bookmark: &[u32],
     out: &mut [u32],
 ) -> usize
-    requires { Asked rows.now targets.now fewest.now from to hops started bookmark.now }
+    requires graph { Compact starts.now targets.now }
+    requires asked { Asked starts.now targets.now fewest.now from to hops (Some bookmark) }
 {
-    let r = search::list(rows, targets, fewest, from, to, hops, started, bookmark, out);
-    if r.more != 0 {
-        return r.count.wrapping_add(4611686018427387904);
-    }
-    r.count
+    let graph = Graph { starts, targets };
+    told(search::list(graph, fewest, from, to, hops, Some(bookmark), out))
 }
 END
 (cd "$copy/crates/bench_export" && rt lib >"$copy/build.log" 2>&1) || { tail -20 "$copy/build.log"; exit 1; }

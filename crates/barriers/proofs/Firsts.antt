@@ -1,18 +1,19 @@
 -- Squeezing: without the later entries of a person the trail leads back to the same barriers.
 use mathlib.Core.Path.{◌≡◌, refl, sym, ap, subst, ◌∙◌}
-use mathlib.Core.Bool.{Bool, true, false, true≢false, false≢true}
+use mathlib.Core.Bool.{Bool, true, false}
 use mathlib.Core.List.Memᴰ
-use mathlib.Core.List.{List, [], ◌∷◌, ◌++◌, map-append, append-nil}
+use mathlib.Core.List.{List, [], ◌∷◌, ◌++◌, map-append}
 use mathlib.Core.Logic.{◌⊎◌, ⊎_elim, inl, inr}
-use Prim.Native.Nat.{ℕ, suc, ◌+◌, ◌*◌, ◌/◌, ◌%◌, ◌≤◌, ◌<◌}
-use lib.ListN.{length, take, drop, get_or, set, length-set}
-use lib.Seq.{slice, slice_empty, slice-cons, take-suc-set, take-set-le, length-take-le, drop-append-le, get_or-set_same, get_or-set_other, set-set, set_comm, append_snoc}
+use Prim.Native.Nat.{ℕ, suc, ◌+◌, ◌-◌, ◌*◌, ◌/◌, ◌%◌, ◌≤◌, ◌<◌}
+use lib.ListN.{length, take, drop, get_or, set, length-set, drop_of_length-le}
+use lib.Seq.{slice, slice-cons, drop-cons, take-suc-set, take-set-le, length-take-le, drop-append-le, get_or-set_same, get_or-set_other, set-set, set_comm, append_snoc}
 use native.Mathlib.Omega.{arith}
 use native.Mathlib.Numerals.{add-one}
 use Rattle.ways.specs.Graph.{◌∈◌}
 use Rattle.ways.proofs.Cases.{same_or_not, lt_or_le}
+use Rattle.ways.proofs.Parts.{part_slice}
 use Rattle.compact.specs.Compact.{persons}
-use Rattle.barriers.specs.Trail.{heights, unwind, Entries, Undoable, Restorable}
+use Rattle.barriers.specs.Trail.{heights, unwind, Entries, Undoable}
 use Rattle.barriers.specs.Squeezing.{Flat, Squeezed, persons_in, Marked, First, FirstsKept, Unmarked}
 use Rattle.barriers.proofs.Unwinding.{unwind-append}
 
@@ -54,12 +55,6 @@ slice_push l low n x h b =
     ∙ drop-append-le low (take n l) (x ∷ []) (rw (length-take-le n l (omega arith)) h)
 
 -- ---- `is_first`
-
-pub first_yes : {barriers : List ℕ} {entry x : ℕ} → x ≡ get_or barriers (entry / heights) 0 → x < heights → First barriers (set barriers (entry / heights) (x + heights)) entry true
-first_yes e h = record { first = λ t. (omega (arith, e), rw e); again = λ t. absurd (true≢false t) }
-
-pub first_no : {barriers : List ℕ} {entry x : ℕ} → x ≡ get_or barriers (entry / heights) 0 → heights ≤ x → First barriers barriers entry false
-first_no e h = record { first = λ t. absurd (false≢true t); again = λ t. (omega (arith, e), refl) }
 
 -- ---- marks
 
@@ -119,29 +114,12 @@ pub record Keeping (barriers₀ trail₀ : List ℕ) (low high : ℕ) (barriers 
   pub entries : Entries trail low n
   pub right : Flat barriers₀ → (bs : List ℕ) → unwind (slice low n trail ++ slice i high trail₀) bs ≡ unwind (slice low high trail₀) bs
 
-pub keep_start : {barriers trail : List ℕ} {low high : ℕ} → Undoable barriers trail low high → Keeping barriers trail low high barriers trail low low
-keep_start {barriers} {trail} {low} {high} k = record {
-  asked = k;
-  marked = record { wide = k.wide; under = λ v. refl; told = λ v t. inr t };
-  above = omega arith;
-  behind = omega arith;
-  below = k.rise;
-  long = refl;
-  keeps = refl;
-  ahead = λ j h. refl;
-  entries = record { each = λ j l h. absurd (omega arith) };
-  right = λ flat bs. ap (λ (l : List ℕ). unwind (l ++ slice low high trail) bs) (slice_empty low trail);
-}
-
 module _ {barriers₀ trail₀ : List ℕ} {low high : ℕ} {barriers trail : List ℕ} {n i : ℕ} (k : Keeping barriers₀ trail₀ low high barriers trail n i) where
   within : i < high → i < length trail
   within lt = omega (arith, k.long, k.asked.fits)
 
   an_entry : i < high → get_or trail i 0 < persons * heights
   an_entry lt = rw (k.ahead i (omega arith)) (k.asked.entries.each i (omega (arith, k.above, k.behind)) lt)
-
-  pub keep_asks : i < high → Restorable barriers (get_or trail i 0)
-  keep_asks lt = record { wide = k.marked.wide; person = an_entry lt }
 
   -- the entry that comes next
   coming : i < high → slice i high trail₀ ≡ get_or trail i 0 ∷ slice (i + 1) high trail₀
@@ -192,60 +170,31 @@ module _ {barriers₀ trail₀ : List ℕ} {low high : ℕ} {barriers trail : Li
             ∙ k.right flat bs;
       }
 
-  pub keep_end : high ≤ i → FirstsKept barriers₀ barriers trail₀ trail low high n
-  keep_end h =
-      let e : i ≡ high = omega (arith, k.below) in
-      record {
-        marked = k.marked;
-        shorter = record {
-          rise = k.above;
-          fits = omega (arith, k.behind, k.below, k.long, k.asked.fits);
-          long = k.long;
-          keeps = k.keeps;
-          entries = k.entries;
-          back = λ flat bs. ap (λ (l : List ℕ). unwind l bs) (sym (append-nil (slice low n trail)) ∙ ap (λ (l : List ℕ). slice low n trail ++ l) (sym (slice_empty high trail₀) ∙ ap (λ (j : ℕ). slice j high trail₀) (sym e))) ∙ k.right flat bs;
-        };
-      }
-
 -- ---- `unmark_all`
 
 -- the loop's invariant: whoever is still marked has an entry still to come
-pub record Unmarking (barriers₀ trail : List ℕ) (low n : ℕ) (barriers : List ℕ) (i : ℕ) : Type 0 where
-  pub asked : Undoable barriers trail low n
-  pub above : low ≤ i
-  pub below : i ≤ n
-  pub marked : {plain : List ℕ} → Marked plain barriers₀ (persons_in (slice low n trail)) → Marked plain barriers (persons_in (slice i n trail))
+pub record Unmarking (barriers₀ es barriers : List ℕ) (i : ℕ) : Type 0 where
+  pub wide : length barriers ≡ persons
+  pub people : (j : ℕ) → j < length es → get_or es j 0 < persons * heights
+  pub marked : {plain : List ℕ} → Marked plain barriers₀ (persons_in es) → Marked plain barriers (persons_in (drop i es))
 
-pub unmark_start : {barriers trail : List ℕ} {low n : ℕ} → Undoable barriers trail low n → Unmarking barriers trail low n barriers low
-unmark_start k = record { asked = k; above = omega arith; below = k.rise; marked = λ m. m }
-
-module _ {barriers₀ trail : List ℕ} {low n : ℕ} {barriers : List ℕ} {i : ℕ} (k : Unmarking barriers₀ trail low n barriers i) where
-  pub unmark_asks : i < n → Restorable barriers (get_or trail i 0)
-  unmark_asks lt = record { wide = k.asked.wide; person = k.asked.entries.each i k.above lt }
-
-  pub unmark_turn : {barriers' : List ℕ} → i < n → barriers' ≡ set barriers (get_or trail i 0 / heights) (get_or barriers (get_or trail i 0 / heights) 0 % heights) → Unmarking barriers₀ trail low n barriers' (i + 1)
+module _ {barriers₀ es barriers : List ℕ} {i : ℕ} (k : Unmarking barriers₀ es barriers i) where
+  pub unmark_turn : {barriers' : List ℕ} → i < length es → barriers' ≡ set barriers (get_or es i 0 / heights) (get_or barriers (get_or es i 0 / heights) 0 % heights) → Unmarking barriers₀ es barriers' (i + 1)
   unmark_turn {barriers'} lt e =
-      let p = get_or trail i 0 / heights in
-      let here : p < persons = omega (arith, k.asked.entries.each i k.above lt) in
+      let p = get_or es i 0 / heights in
+      let here : p < persons = omega (arith, k.people i lt) in
       record {
-        asked = record { wide = ap length e ∙ length-set barriers p _ ∙ k.asked.wide; rise = k.asked.rise; fits = k.asked.fits; entries = k.asked.entries };
-        above = omega (arith, k.above);
-        below = omega arith;
-        marked = λ m. rw (e, add-one i) (mark_less p here (rw (slice-cons i n trail 0 lt k.asked.fits) at (k.marked m)));
+        wide = ap length e ∙ length-set barriers p _ ∙ k.wide;
+        people = k.people;
+        marked = λ m. rw (e, add-one i) (mark_less p here (rw (drop-cons es i 0 lt) at (k.marked m)));
       }
 
-  pub unmark_end : n ≤ i → Unmarked barriers₀ barriers trail low n
-  unmark_end h =
-      let e : i ≡ n = omega (arith, k.below) in
-      record { plain = λ m. rw (e, slice_empty n trail) at (k.marked m) }
+  pub unmark_end : {trail : List ℕ} {low n : ℕ} → Undoable barriers₀ trail low n → es ≡ take (n - low) (drop low trail) → length es ≤ i → Unmarked barriers₀ barriers trail low n
+  unmark_end {trail} {low} {n} u e h =
+      let all : es ≡ slice low n trail = e ∙ part_slice low n trail u.rise in
+      record { plain = λ {barriers₀ = plain} m. rw (drop_of_length-le es h) at (k.marked {plain = plain} (rw all m)) }
 
 -- ---- `squeeze`
-
-pub squeeze_none : {barriers trail : List ℕ} {low high : ℕ} → Undoable barriers trail low high → Squeezed barriers barriers trail trail low high high
-squeeze_none k = record { wide = k.wide; same = λ v h. refl; shorter = record { rise = k.rise; fits = k.fits; long = refl; keeps = refl; entries = k.entries; back = λ flat bs. refl } }
-
-pub squeeze_asks : {barriers barriers' trail trail' : List ℕ} {low high n : ℕ} → FirstsKept barriers barriers' trail trail' low high n → Undoable barriers' trail' low n
-squeeze_asks k = record { wide = k.marked.wide; rise = k.shorter.rise; fits = k.shorter.fits; entries = k.shorter.entries }
 
 pub squeeze_done : {barriers barriers' barriers'' trail trail' : List ℕ} {low high n : ℕ} → FirstsKept barriers barriers' trail trail' low high n → Unmarked barriers' barriers'' trail' low n → Squeezed barriers barriers'' trail trail' low high n
 squeeze_done k u = let m = u.plain k.marked in record { wide = m.wide; same = mark_none m; shorter = k.shorter }

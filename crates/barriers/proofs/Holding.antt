@@ -128,18 +128,6 @@ module _ {g : Graph} {t : ℕ} {seen : List ℕ} where
 
 -- ---- `settle`
 
--- what was promised so far is what settling asks
-pub barred_settling : {g : Graph} {t : ℕ} {seen : List ℕ} {h : ℕ} {a b ta tb : List ℕ} {na nb v left : ℕ} → v < persons → left + 1 < heights → Barred g t seen h a b ta tb na nb → Settling b tb v left na nb
-barred_settling {v = v} lv fits p = record {
-  place = lv;
-  wide = p.hold.long;
-  old = p.hold.low v;
-  new = fits;
-  rise = p.trailed.rise;
-  fits = p.trailed.fits;
-  entries = p.trailed.entries;
-}
-
 module _ {barriers trail : List ℕ} {v left low high : ℕ} where
   -- v's barrier is raised
   pub settle_raised : {barriers' trail' : List ℕ} {barren : Bool} {n : ℕ} → Settling barriers trail v left low high → barren ≡ true → Raised barriers barriers' trail trail' v (left + 1) high n → Settled barriers barriers' trail trail' v left barren low high n

@@ -9,7 +9,7 @@ use native.Mathlib.Omega.{arith}
 use native.Mathlib.Numerals.{add-one}
 use Rattle.ways.proofs.Cases.{lt_or_le}
 use Rattle.compact.specs.Compact.{persons}
-use Rattle.barriers.specs.Trail.{heights, unwind, Entries, Trailed, Restorable, Undoable, Raising, Raised}
+use Rattle.barriers.specs.Trail.{heights, unwind, Entries, Trailed, Undoable, Raising, Raised}
 use Rattle.barriers.specs.Squeezing.{Flat, Shorter}
 
 pub unwind-append : (xs ys barriers : List ℕ) → unwind (xs ++ ys) barriers ≡ unwind xs (unwind ys barriers)
@@ -108,13 +108,7 @@ pub record Undoing (barriers₀ trail : List ℕ) (low high : ℕ) (barriers : L
   pub below : n ≤ high
   pub right : unwind (slice low n trail) barriers ≡ unwind (slice low high trail) barriers₀
 
-pub undo_start : {barriers trail : List ℕ} {low high : ℕ} → Undoable barriers trail low high → Undoing barriers trail low high barriers high
-undo_start k = record { asked = k; above = k.rise; below = omega arith; right = refl }
-
 module _ {barriers₀ trail : List ℕ} {low high : ℕ} {barriers : List ℕ} {n : ℕ} (p : Undoing barriers₀ trail low high barriers n) where
-  pub undo_restores : low < n → Restorable barriers (get_or trail (n - 1) 0)
-  undo_restores lt = record { wide = p.asked.wide; person = p.asked.entries.each (n - 1) (omega arith) (omega (arith, p.below)) }
-
   pub undo_turn : {barriers' : List ℕ} → low < n → barriers' ≡ set barriers (get_or trail (n - 1) 0 / heights) (get_or trail (n - 1) 0 % heights) → Undoing barriers₀ trail low high barriers' (n - 1)
   unfolding unwind
   undo_turn {barriers'} lt e =

@@ -4,7 +4,7 @@ ghost use Rattle.std.specs.Prelude.{◌≡◌, ◌/◌, ◌%◌, get_or, set};
 ghost use Rattle.barriers.specs.Trail.{heights, Restorable, Undoable};
 ghost use Rattle.barriers.specs.Squeezing.{Squeezed, First, FirstsKept, Unmarked};
 
-use crate::trail::{HEIGHTS, wide};
+use crate::trail::HEIGHTS;
 use compact::PERSONS;
 
 // Twice as many as there are persons: then half or more are later entries of persons who have one, so that squeezing takes a few steps for each
@@ -18,7 +18,7 @@ fn is_first(barriers: &mut [u8; PERSONS], entry: u16) -> bool
     ensures { First barriers.old barriers.new entry result }
 {
     let person = entry as usize / HEIGHTS;
-    let barrier = wide(barriers[person]);
+    let barrier = usize::from(barriers[person]);
     if barrier >= HEIGHTS {
         return false;
     }
@@ -32,14 +32,13 @@ fn keep_firsts(barriers: &mut [u8; PERSONS], trail: &mut [u16], low: usize, high
     ensures { FirstsKept barriers.old barriers.new trail.old trail.new low high result }
 {
     let mut n = low;
-    let mut i = low;
-    while i < high {
+    // By places, since what is read and what is written stand in one slice.
+    for i in low..high {
         let entry = trail[i];
         if is_first(barriers, entry) {
             trail[n] = entry;
             n += 1;
         }
-        i += 1;
     }
     n
 }
@@ -50,7 +49,7 @@ fn unmark(barriers: &mut [u8; PERSONS], entry: u16)
     ensures { barriers.new ≡ set barriers.old (entry / heights) (get_or barriers.old (entry / heights) 0 % heights) }
 {
     let person = entry as usize / HEIGHTS;
-    barriers[person] = (wide(barriers[person]) % HEIGHTS) as u8;
+    barriers[person] = (usize::from(barriers[person]) % HEIGHTS) as u8;
 }
 
 // Takes the marks off the persons of the entries from `low` up to `n`.
@@ -58,10 +57,8 @@ fn unmark_all(barriers: &mut [u8; PERSONS], trail: &[u16], low: usize, n: usize)
     requires { Undoable barriers.old trail.now low n }
     ensures { Unmarked barriers.old barriers.new trail.now low n }
 {
-    let mut i = low;
-    while i < n {
-        unmark(barriers, trail[i]);
-        i += 1;
+    for &entry in &trail[low..n] {
+        unmark(barriers, entry);
     }
 }
 

@@ -23,17 +23,9 @@ pub fn undo(barriers: &mut [u8; PERSONS], trail: &[u16], low: usize, high: usize
     requires { Undoable barriers.old trail.now low high }
     ensures { barriers.new ≡ unwind (slice low high trail.now) barriers.old }
 {
-    let mut n = high;
-    while low < n {
-        n -= 1;
+    for n in (low..high).rev() {
         restore(barriers, trail[n]);
     }
-}
-
-pub fn wide(x: u8) -> usize
-    ensures { result ≡ x }
-{
-    x as usize
 }
 
 // Raises v's barrier, if the trail has room for the old one. Returns how many entries the trail then has.
@@ -50,7 +42,7 @@ pub fn raise(
     if n >= trail.len() {
         return n;
     }
-    trail[n] = (v * HEIGHTS + wide(barriers[v])) as u16;
+    trail[n] = (v * HEIGHTS + usize::from(barriers[v])) as u16;
     barriers[v] = barrier as u8;
     n + 1
 }

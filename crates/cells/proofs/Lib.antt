@@ -1,3 +1,3 @@
--- The laws of the loops that go through cells.
+-- The law of going through cells.
 pub mod Copying
 pub mod Seeking

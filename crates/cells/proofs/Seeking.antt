@@ -1,30 +1,20 @@
--- Going through cells for a person: those still to come decide.
-use mathlib.Core.Path.{◌≡◌, sym, ◌∙◌}
-use mathlib.Core.Bool.{Bool, true, false}
-use mathlib.Core.List.{List}
-use Prim.Native.Nat.{ℕ, ◌+◌, ◌<◌, ◌≤◌}
-use native.Mathlib.Numerals.{add-one}
-use native.Mathlib.Omega.{arith}
-use lib.ListN.{length, get_or}
-use lib.Seq.{slice, slice_empty, slice-cons}
+-- A person among cells: what the library says of a slice, in the words of the graph.
+use mathlib.Core.Path.{◌≡◌, refl, sym}
+use mathlib.Core.List.{List, [], ◌∷◌}
+use mathlib.Core.Logic.{⊎_elim}
+use Prim.Native.Nat.{ℕ}
+use lib.Dec.{eqb}
+use Rattle.std.specs.List.{list_any}
 use borrow.Author.Tests.{eq-eqb, ne_eqb}
 use Rattle.ways.specs.Graph.{among}
+use Rattle.ways.proofs.Cases.{same_or_not}
 
--- a person is sought in the cells from `at` up to `end`
-pub record Seeking (person : ℕ) (cells : List ℕ) (whole : Bool) (at end : ℕ) : Type 0 where
-  pub bound : at ≤ end
-  pub fits : end ≤ length cells
-  pub rest : whole ≡ among person (slice at end cells)
-
-module _ {person : ℕ} {cells : List ℕ} {whole : Bool} {at end : ℕ} (s : Seeking person cells whole at end) where
-  pub seek_on : at < end → (get_or cells at 0 ≡ person → ⊥) → Seeking person cells whole (at + 1) end
-  unfolding among
-  seek_on h n = record { bound = omega arith; fits = s.fits; rest = s.rest ∙ rw (slice-cons at end cells 0 h s.fits, ne_eqb person (get_or cells at 0) (λ e. n (sym e)), add-one at) }
-
-  pub seek_found : at < end → get_or cells at 0 ≡ person → true ≡ whole
-  unfolding among
-  seek_found h e = sym (s.rest ∙ rw (slice-cons at end cells 0 h s.fits, eq-eqb person (get_or cells at 0) (sym e)))
-
-  pub seek_none : end ≤ at → false ≡ whole
-  unfolding among
-  seek_none h = let e : at ≡ end = omega arith in sym (s.rest ∙ rw (e, slice_empty end cells))
+-- some cell is the person, where the library looks, and where the definition does
+pub contains_among : (person : ℕ) (cells : List ℕ) → list_any (λ (c : ℕ). eqb c person) cells ≡ among person cells
+unfolding among
+contains_among person [] = refl
+contains_among person (c ∷ cells) =
+    ⊎_elim
+    (λ e. rw (eq-eqb person c e, eq-eqb c person (sym e)) refl)
+    (λ n. rw (ne_eqb person c n, ne_eqb c person (λ e. n (sym e))) (contains_among person cells))
+    (same_or_not person c)

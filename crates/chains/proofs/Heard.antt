@@ -2,10 +2,10 @@
 use mathlib.Core.Path.{◌≡◌, refl}
 use mathlib.Core.Bool.{Bool, true, false, cond}
 use mathlib.Core.List.{List}
-use Prim.Native.Nat.{ℕ, ◌≤◌, ◌<◌}
+use Prim.Native.Nat.{ℕ, ◌≤◌}
 use native.Mathlib.Omega.{arith}
 use lib.Dec.{ltb}
-use borrow.Author.Tests.{ltb-true, ltb-false}
+use borrow.Author.Tests.{ltb-false}
 use lib.ListN.{length}
 use Rattle.question.specs.declared.Question.{Question}
 use Rattle.chains.specs.Program.{question_size, question_in, asks, refused, heard_in}
@@ -17,11 +17,3 @@ asks_what bytes {q} e = go (ltb (length bytes) question_size) refl e
     go : (t : Bool) → ltb (length bytes) question_size ≡ t → asks q ≡ cond t (refused 19 0) (asks (question_in bytes)) → (question_size ≤ length bytes) × (q ≡ question_in bytes)
     go true t e = let z : ◌≡◌ {A = ℕ} 0 1 = cc in absurd (omega arith)
     go false t e = (ltb-false (length bytes) question_size t, cc)
-
--- a refusal is 19, where there are fewer
-pub refused_what : (bytes : List ℕ) {number place : ℕ} → refused number place ≡ heard_in bytes → (length bytes < question_size) × (number ≡ 19) × (place ≡ 0)
-refused_what bytes {number} {place} e = go (ltb (length bytes) question_size) refl e
-  where
-    go : (t : Bool) → ltb (length bytes) question_size ≡ t → refused number place ≡ cond t (refused 19 0) (asks (question_in bytes)) → (length bytes < question_size) × (number ≡ 19) × (place ≡ 0)
-    go true t e = (ltb-true (length bytes) question_size t, cc, cc)
-    go false t e = let z : ◌≡◌ {A = ℕ} 0 1 = cc in absurd (omega arith)

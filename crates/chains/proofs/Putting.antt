@@ -2,13 +2,14 @@
 use mathlib.Core.Path.{◌≡◌, refl, sym, ap, ◌∙◌}
 use mathlib.Core.Bool.{Bool, true, false}
 use mathlib.Core.List.{List, [], ◌++◌, append_assoc, append-nil}
-use Prim.Native.Nat.{ℕ, zero, suc, ◌+◌, ◌-◌, ◌≤◌, ◌<◌}
+use Prim.Native.Nat.{ℕ, ◌+◌, ◌-◌, ◌≤◌, ◌<◌}
 use native.Mathlib.Omega.{arith}
 use borrow.Author.Tests.{ltb-true, ltb-false}
 use lib.Dec.{ltb}
-use lib.ListN.{length, take, length-append}
-use lib.Seq.{length-take-le}
-use Rattle.listing.specs.Portions.{bookmarked}
+use lib.ListN.{length, take}
+use Rattle.refusals.specs.Reasons.{number_of}
+use Rattle.refusals.specs.declared.Refusal.{Refusal}
+use Rattle.chains.specs.Onward.{next_start}
 use Rattle.text.specs.Decimal.{worth}
 use Rattle.text.specs.Lines.{chain_lines, chains_at, end_line, refusal_line}
 use Rattle.text.specs.Printed.{Printed, LinesReach, longest_line}
@@ -16,8 +17,8 @@ use Rattle.text.specs.declared.Reached as text
 use Rattle.text.proofs.Printing.{printed-length, printed-take}
 use Rattle.text.proofs.Lining.{end_some, refusal_some, lines_some, chains_split, lines_append, reach_moves}
 use Rattle.chains.specs.Program.{printed}
-use Rattle.chains.specs.Pieces.{behind_portion, GoesOn, left_text, Lined, Ready, NextPiece, to_print, Begins, Run, done, next, laid}
-use Rattle.chains.specs.Inside.{AtOnce, Printable, LookedAhead, PutPiece, piece_of, left_behind}
+use Rattle.chains.specs.Pieces.{behind_portion, GoesOn, left_text, Lined, Ready, to_print, Begins, Run, done, next, laid}
+use Rattle.chains.specs.Inside.{Printable, PutPiece, piece_of, left_behind}
 use Rattle.chains.specs.declared.progress.Left as code
 use Rattle.chains.specs.declared.progress.Progress.{Progress}
 use Rattle.chains.specs.declared.pieces.Piece.{Piece}
@@ -35,23 +36,9 @@ module _ (cells : List ℕ) (progress : Progress) where
     };
   })
 
-  pub put_refusal : {number place : ℕ} {out out' : List ℕ} {bytes : ℕ} {piece : Piece} → progress.left ≡ code.TheVariants.Refusal number place → Printed out 0 (refusal_line number place) out' bytes → bytes ≤ length out
+  pub put_refusal : {refusal : Refusal} {out out' : List ℕ} {bytes : ℕ} {piece : Piece} → progress.left ≡ code.TheVariants.Refusal refusal → Printed out 0 (refusal_line (number_of refusal.reason) refusal.place) out' bytes → bytes ≤ length out
       → piece ≡ piece_of progress bytes code.TheVariants.Nothing → PutPiece cells progress out' piece
-  put_refusal {number} {place} left = put_all (λ input. rw left) (refusal_some number place)
-
-  -- nothing is left: no lines, no refusal, and no portion that would have to be asked for
-  pub put_nothing : {out : List ℕ} {piece : Piece} → ((next count : ℕ) (ended : Bool) → progress.left ≡ code.TheVariants.Lines next count ended → ⊥) → ((number place : ℕ) → progress.left ≡ code.TheVariants.Refusal number place → ⊥)
-      → Printable cells progress → piece ≡ piece_of progress 0 progress.left → PutPiece cells progress out piece
-  put_nothing lines refusal ok is = rw is (record {
-    next = λ input r. record { within = omega arith; text = refl; empty = λ e. none input progress.left lines refusal ok; ready = r };
-  })
-    where
-      none : (input : List ℕ) (left : code.Left) → ((next count : ℕ) (ended : Bool) → left ≡ code.TheVariants.Lines next count ended → ⊥) → ((number place : ℕ) → left ≡ code.TheVariants.Refusal number place → ⊥)
-          → AtOnce progress.counted cells left → left_text input progress.bookmark progress.counted cells left ≡ []
-      none input (code.TheVariants.Portion started) lines refusal ok = absurd ok
-      none input (code.TheVariants.Lines first count ended) lines refusal ok = absurd (lines first count ended refl)
-      none input (code.TheVariants.Refusal number place) lines refusal ok = absurd (refusal number place refl)
-      none input code.TheVariants.Nothing lines refusal ok = refl
+  put_refusal {refusal} left = put_all (λ input. rw left) (refusal_some (number_of refusal.reason) refusal.place)
 
   pub put_lined : {next count : ℕ} {ended : Bool} → progress.left ≡ code.TheVariants.Lines next count ended → Printable cells progress → Lined progress.counted cells next count ended
   put_lined left ok = rw left at ok
@@ -74,7 +61,7 @@ module _ (cells : List ℕ) (progress : Progress) where
         → Ready input progress.bookmark progress.counted cells (left_behind n count ended)
     behind_ready input {n} h r = go (ltb n count) refl ended r.1
       where
-        go : (t : Bool) → ltb n count ≡ t → (e : Bool) → (e ≡ false → GoesOn input (bookmarked progress.bookmark) progress.bookmark progress.counted cells)
+        go : (t : Bool) → ltb n count ≡ t → (e : Bool) → (e ≡ false → GoesOn input (next_start progress.bookmark) progress.counted cells)
             → Ready input progress.bookmark progress.counted cells (left_behind n count e)
         go true t e on = rw t (record { to = h; records = ok.records; digits = ok.digits; some = λ x. ltb-true n count t }, on)
         go false t true on = rw t (record { to = h; records = ok.records; digits = ok.digits; some = λ x. absurd (let z : ◌≡◌ {A = ℕ} 0 1 = cc in omega arith) }, on)
@@ -112,23 +99,6 @@ module _ (cells : List ℕ) (progress : Progress) where
             rw (printed-take p.lines p.within, many, chains_split cells next (reached.next - next) (count - reached.next), at, lines_append A B) (append_assoc (chain_lines A) (chain_lines B) rest)
 
 -- ---- looked ahead and put: the next piece
-pub piece_next : {input cells : List ℕ} {progress : Progress} {cells' : List ℕ} {seen : Progress} {out' : List ℕ} {piece : Piece} → LookedAhead input cells progress cells' seen → PutPiece cells' seen out' piece → NextPiece input cells progress cells' out' piece
-piece_next {input} a p =
-    let n = p.next input a.ready in
-    record { within = n.within; text = a.same ∙ n.text; empty = λ e. a.same ∙ n.empty e; ready = n.ready }
-
--- what is to be printed falls by the bytes of a piece
-pub piece_less : {input cells : List ℕ} {progress : Progress} {cells' out' : List ℕ} {piece : Piece} → NextPiece input cells progress cells' out' piece → (piece.bytes ≡ 0 → ⊥) → length (to_print input cells' piece.progress) < length (to_print input cells progress)
-piece_less {input} {cells} {progress} {cells'} {out'} {piece} p some =
-    let l = ap length p.text ∙ length-append (take piece.bytes out') (to_print input cells' piece.progress) in
-    let t = length-take-le piece.bytes out' p.within in
-    let b : 1 ≤ piece.bytes = positive piece.bytes some in
-    omega arith
-  where
-    positive : (n : ℕ) → (n ≡ 0 → ⊥) → 1 ≤ n
-    positive zero no_zero = absurd (no_zero refl)
-    positive (suc n) no_zero = omega arith
-
 -- ---- the pieces of a run from the start, laid end to end, are all that the program prints
 run_laid : {input cells : List ℕ} {progress : Progress} {pieces : List (List ℕ)} → Run input cells progress pieces → to_print input cells progress ≡ laid pieces
 run_laid (done p none) = p.empty none

@@ -1,6 +1,6 @@
 -- The inner functions of the printing: what they ask of their callers, and what they do. Definitions only.
-use Rattle.std.specs.Prelude.{◌≡◌, List, Bool, true, false, cond, ℕ, ltb}
-use Rattle.refusals.specs.Answers.{Answer, listed, refused}
+use Rattle.std.specs.Prelude.{◌≡◌, List, Bool, true, false, cond, ℕ, ltb, Ok, Err}
+use Rattle.refusals.specs.Answers.{Told}
 use Rattle.chains.specs.Pieces.{Lined, to_print, Standing, NextPiece}
 use Rattle.chains.specs.declared.progress.Left as code
 use Rattle.chains.specs.declared.progress.Progress.{Progress}
@@ -8,9 +8,9 @@ use Rattle.chains.specs.declared.pieces.Piece.{Piece}
 
 -- what is left can be printed at once: no portion has to be asked for first
 abbrev pub AtOnce : List ℕ → List ℕ → code.Left → Type 0
-AtOnce counted cells (code.TheVariants.Portion started) = ⊥
+AtOnce counted cells code.TheVariants.Portion = ⊥
 AtOnce counted cells (code.TheVariants.Lines next count ended) = Lined counted cells next count ended
-AtOnce counted cells (code.TheVariants.Refusal number place) = Unit {0}
+AtOnce counted cells (code.TheVariants.Refusal refusal) = Unit {0}
 AtOnce counted cells code.TheVariants.Nothing = Unit {0}
 
 abbrev pub Printable : List ℕ → Progress → Type 0
@@ -23,9 +23,9 @@ pub record LookedAhead (input cells : List ℕ) (progress : Progress) (cells' : 
   pub printable : Printable cells' seen
 
 -- a portion's answer leaves its lines, or its refusal's
-abbrev pub left_by : Answer → code.Left
-left_by (listed count ended) = code.TheVariants.Lines 0 count ended
-left_by (refused number place) = code.TheVariants.Refusal number place
+abbrev pub left_by : Told → code.Left
+left_by (Ok told) = code.TheVariants.Lines 0 told.count told.ended
+left_by (Err refusal) = code.TheVariants.Refusal refusal
 
 -- a piece of so many bytes, and what it leaves
 abbrev pub piece_of : Progress → ℕ → code.Left → Piece
@@ -38,7 +38,7 @@ pub record PutPiece (cells : List ℕ) (progress : Progress) (out' : List ℕ) (
 -- behind the lines up to a record come the other lines; behind all, the last line or the next portion
 abbrev pub behind_all : ℕ → ℕ → Bool → code.Left
 behind_all next count true = code.TheVariants.Lines next count true
-behind_all next count false = code.TheVariants.Portion 1
+behind_all next count false = code.TheVariants.Portion
 
 abbrev pub left_behind : ℕ → ℕ → Bool → code.Left
 left_behind next count ended = cond (ltb next count) (code.TheVariants.Lines next count ended) (behind_all next count ended)

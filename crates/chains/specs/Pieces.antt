@@ -1,11 +1,12 @@
 -- What is printed, piece by piece: what is still to be printed. Definitions only.
-use Rattle.std.specs.Prelude.{◌≡◌, List, [], ◌∷◌, ◌++◌, Bool, true, false, cond, ℕ, ◌-◌, ◌≤◌, ◌<◌, length, take, drop, ltb}
+use Rattle.std.specs.Prelude.{◌≡◌, List, [], ◌∷◌, ◌++◌, Bool, true, false, cond, ℕ, ◌-◌, ◌≤◌, ◌<◌, length, take, drop, ltb, Option}
 use Rattle.ways.specs.Sizes.{record_size}
-use Rattle.listing.specs.Portions.{Start, bookmarked, start_said}
+use Rattle.listing.specs.Portions.{Start}
+use Rattle.refusals.specs.Reasons.{number_of}
 use Rattle.text.specs.Decimal.{worth, Digits}
 use Rattle.text.specs.Lines.{chain_lines, chains_at, end_line, refusal_line, Records}
 use Rattle.chains.specs.Program.{question_size, question_in, printed}
-use Rattle.chains.specs.Onward.{to_come, OnTheWay}
+use Rattle.chains.specs.Onward.{next_start, to_come, OnTheWay}
 use Rattle.chains.specs.declared.progress.Left as code
 use Rattle.chains.specs.declared.progress.Progress.{Progress}
 use Rattle.chains.specs.declared.pieces.Piece.{Piece}
@@ -16,16 +17,16 @@ from_start input start before =
     cond (ltb (length input) question_size) (refusal_line 19 0) (to_come (drop question_size input) (question_in input) start before)
 
 -- what follows the last line of a portion: the last line of all, or what is to come behind the bookmark
-abbrev pub behind_portion : List ℕ → List ℕ → ℕ → Bool → List ℕ
+abbrev pub behind_portion : List ℕ → Option (List ℕ) → ℕ → Bool → List ℕ
 behind_portion input bookmark before true = end_line before
-behind_portion input bookmark before false = from_start input (bookmarked bookmark) before
+behind_portion input bookmark before false = from_start input (next_start bookmark) before
 
 -- what is still to be printed, in each case of the code's enum
-abbrev pub left_text : List ℕ → List ℕ → List ℕ → List ℕ → code.Left → List ℕ
-left_text input bookmark counted cells (code.TheVariants.Portion started) = from_start input (start_said started bookmark) (worth counted)
+abbrev pub left_text : List ℕ → Option (List ℕ) → List ℕ → List ℕ → code.Left → List ℕ
+left_text input bookmark counted cells code.TheVariants.Portion = from_start input (next_start bookmark) (worth counted)
 left_text input bookmark counted cells (code.TheVariants.Lines next count ended) =
     chain_lines (chains_at cells next (count - next)) ++ behind_portion input bookmark (worth counted) ended
-left_text input bookmark counted cells (code.TheVariants.Refusal number place) = refusal_line number place
+left_text input bookmark counted cells (code.TheVariants.Refusal refusal) = refusal_line (number_of refusal.reason) refusal.place
 left_text input bookmark counted cells code.TheVariants.Nothing = []
 
 -- the lines from a record on can be printed: the cells hold the records, and where more portions follow there is a line
@@ -36,13 +37,13 @@ pub record Lined (counted cells : List ℕ) (next count : ℕ) (ended : Bool) : 
   pub some : ended ≡ false → next < count
 
 -- what is left can be printed: a portion that comes next, or behind the lines, goes on from the bookmark
-abbrev pub GoesOn : List ℕ → Start → List ℕ → List ℕ → List ℕ → Type 0
-GoesOn input start bookmark counted cells = OnTheWay (drop question_size input) (question_in input) start bookmark counted cells
+abbrev pub GoesOn : List ℕ → Start → List ℕ → List ℕ → Type 0
+GoesOn input start counted cells = OnTheWay (drop question_size input) (question_in input) start counted cells
 
-abbrev pub Ready : List ℕ → List ℕ → List ℕ → List ℕ → code.Left → Type 0
-Ready input bookmark counted cells (code.TheVariants.Portion started) = GoesOn input (start_said started bookmark) bookmark counted cells
-Ready input bookmark counted cells (code.TheVariants.Lines next count ended) = Lined counted cells next count ended × (ended ≡ false → GoesOn input (bookmarked bookmark) bookmark counted cells)
-Ready input bookmark counted cells (code.TheVariants.Refusal number place) = Unit {0}
+abbrev pub Ready : List ℕ → Option (List ℕ) → List ℕ → List ℕ → code.Left → Type 0
+Ready input bookmark counted cells code.TheVariants.Portion = GoesOn input (next_start bookmark) counted cells
+Ready input bookmark counted cells (code.TheVariants.Lines next count ended) = Lined counted cells next count ended × (ended ≡ false → GoesOn input (next_start bookmark) counted cells)
+Ready input bookmark counted cells (code.TheVariants.Refusal refusal) = Unit {0}
 Ready input bookmark counted cells code.TheVariants.Nothing = Unit {0}
 
 -- all that is still to be printed

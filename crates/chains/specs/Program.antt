@@ -1,13 +1,14 @@
 -- What the program prints for what it reads. Definitions only.
-use Rattle.std.specs.Prelude.{List, ◌++◌, cond, ℕ, ◌+◌, length, take, drop, ltb}
+use Rattle.std.specs.Prelude.{List, ◌++◌, cond, ℕ, ◌+◌, length, take, drop, ltb, Result, Ok, Err}
 use Rattle.format.specs.Numbers.{number32}
 use Rattle.format.specs.Format.{marked, counts_fit}
 use Rattle.refusals.specs.Faults.{Fault, sound, fault}
+use Rattle.refusals.specs.Reasons.{number_of}
+use Rattle.refusals.specs.declared.Refusal.{Refusal}
 use Rattle.question.specs.declared.Question.{Question}
 use Rattle.question.specs.Asked.{asked_fault}
 use Rattle.portion.specs.Listing.{listing_for}
 use Rattle.text.specs.Lines.{chain_lines, end_line, refusal_line}
-use Rattle.chains.specs.declared.reading.Input as code
 
 -- "The program's question becomes 32 bytes, and 01's 28 reads 32.": eight 32-bit numbers
 abbrev pub question_size : ℕ
@@ -31,10 +32,10 @@ pub data Heard : Type 0 where
   asks : Question → Heard
   refused : ℕ → ℕ → Heard
 
--- what the code's enum says, in these words
-abbrev pub input_said : code.Input → Heard
-input_said (code.TheVariants.Asks q) = asks q
-input_said (code.TheVariants.Refused number place) = refused number place
+-- what the code says, in these words
+abbrev pub input_said : Result Question Refusal → Heard
+input_said (Ok q) = asks q
+input_said (Err refusal) = refused (number_of refusal.reason) refusal.place
 
 -- 19: "program: input under 28 bytes", which reads 32, place 0; "19 precedes all"
 abbrev pub heard_in : List ℕ → Heard

@@ -1,29 +1,26 @@
 // Looking ahead: where a portion comes next it is asked for, so that lines come next.
 ghost use Rattle.std.specs.Prelude.{◌≡◌};
-ghost use Rattle.refusals.specs.Answers.{answer_said};
 ghost use Rattle.chains.specs.Pieces.{Standing};
 ghost use Rattle.chains.specs.Inside.{LookedAhead, left_by};
 
+use crate::hearing::{QUESTION, heard};
 use crate::onward::go_on;
 use crate::progress::{Left, Progress};
-use crate::reading::{Input, QUESTION, heard};
-use refusals::Answer;
+use refusals::{Answer, Listed};
 
-// What a portion's answer leaves to print: its lines, or its refusal's.
-fn answered(answer: Answer) -> Left
-    ensures { result ≡ left_by (answer_said answer) }
-{
-    let Answer::Listed { count, ended } = answer else {
-        let Answer::Refused { number, place } = answer else {
-            // Never: there is no third case.
-            return Left::Nothing;
-        };
-        return Left::Refusal { number, place };
-    };
-    Left::Lines {
-        next: 0,
-        count,
-        ended,
+impl From<Answer> for Left {
+    // What a portion's answer leaves to print: its lines, or its refusal's.
+    fn from(answer: Answer) -> Left
+        ensures { result ≡ left_by answer }
+    {
+        match answer {
+            Ok(Listed { count, ended }) => Left::Lines {
+                next: 0,
+                count,
+                ended,
+            },
+            Err(refusal) => Left::Refusal(refusal),
+        }
     }
 }
 
@@ -32,28 +29,21 @@ pub fn look_ahead(input: &[u8], progress: Progress, cells: &mut [u32]) -> Progre
     requires { Standing input.now cells.old progress }
     ensures { LookedAhead input.now cells.old progress cells.new result }
 {
-    let left = progress.left;
-    let Left::Portion { started } = left else {
+    let Left::Portion = progress.left else {
         return progress;
     };
     let mut bookmark = progress.bookmark;
     let mut counted = progress.counted;
-    let next = match heard(input) {
-        Input::Refused { number, place } => Left::Refusal { number, place },
-        Input::Asks(question) => {
-            let answer = go_on(
-                &input[QUESTION..],
-                question,
-                started,
-                &mut bookmark,
-                &mut counted,
-                cells,
-            );
-            answered(answer)
+    let left = match heard(input) {
+        Err(refusal) => Left::Refusal(refusal),
+        Ok(question) => {
+            let file = &input[QUESTION..];
+            let answer = go_on(file, question, &mut bookmark, &mut counted, cells);
+            Left::from(answer)
         }
     };
     Progress {
-        left: next,
+        left,
         bookmark,
         counted,
     }

@@ -6,18 +6,18 @@
 #![tactic(auto)]
 
 mod ahead;
+mod hearing;
 mod onward;
 mod pieces;
 mod progress;
-mod reading;
 
 ghost use Rattle.std.specs.Prelude.{◌≡◌, ◌*◌, ◌≤◌, length};
 ghost use Rattle.ways.specs.Sizes.{record_size};
 ghost use Rattle.text.specs.Printed.{longest_line};
 ghost use Rattle.chains.specs.Program.{longest_input, portion_size};
 
-use crate::reading::QUESTION;
-use std::io::Read;
+use crate::hearing::QUESTION;
+use reading::read_full;
 use ways::RECORD;
 
 // The most bytes of a file.
@@ -32,7 +32,7 @@ const CELLS: usize = PORTION * RECORD;
 // The most bytes of a piece.
 const PIECE: usize = 65_536;
 
-// Zeros for the input, and for the records of a portion. The `ensures` gives the length, which lending them as a slice needs.
+// Zeros for the input, and for the records of a portion: as many as specs/Program says, which no clause of `main` can.
 fn input_space() -> [u8; LONGEST_INPUT]
     ensures { longest_input ≡ length result }
 {
@@ -45,29 +45,8 @@ fn record_space() -> [u32; CELLS]
     [0; CELLS]
 }
 
-// Zeros for a piece.
-fn piece_space() -> [u8; PIECE]
-    ensures { 65_536 ≡ length result }
-{
-    [0; PIECE]
-}
-
-// Reads until the space is full, the input ends or a read fails: how many bytes came.
-fn read_full(from: &mut impl Read, space: &mut [u8]) -> usize
-    ensures { result ≤ length space.new }
-{
-    let mut done = 0;
-    while done < space.len() {
-        let more = from.read(&mut space[done..]).unwrap_or(0);
-        if more == 0 {
-            break;
-        }
-        done += more;
-    }
-    done
-}
-
-// Piece by piece, until one is empty: then nothing is left.
+// Piece by piece, until one is empty: then nothing is left. No `for` goes over the pieces: each is made where the last one lay, once that is
+// written.
 fn print(rt: &impl Print, input: &[u8], cells: &mut [u32], out: &mut [u8])
     requires { (record_size ≤ length cells.old) × (longest_line ≤ length out.old) }
 {
@@ -81,8 +60,7 @@ fn print(rt: &impl Print, input: &[u8], cells: &mut [u32], out: &mut [u8])
         if rt.write_all(&out[..bytes]).is_err() {
             return;
         }
-        let after = piece.progress;
-        progress = after;
+        progress = piece.progress;
     }
 }
 
@@ -90,6 +68,6 @@ fn main(rt: HostRuntime) {
     let mut input = input_space();
     let length = read_full(&mut rt.stdin(), &mut input);
     let mut cells = record_space();
-    let mut out = piece_space();
+    let mut out = [0; PIECE];
     print(&rt, &input[..length], &mut cells, &mut out);
 }

@@ -41,7 +41,7 @@ fn behind_lines(next: usize, count: usize, ended: bool) -> Left
     if next < count || ended {
         return Left::Lines { next, count, ended };
     }
-    Left::Portion { started: 1 }
+    Left::Portion
 }
 
 // Puts the first lines of what is left, as many as there is room for.
@@ -61,8 +61,8 @@ fn put_piece(progress: Progress, cells: &[u32], out: &mut [u8]) -> Piece
             let bytes = text::end_line(&counted, out);
             piece_of(progress, bytes, Left::Nothing)
         }
-        Left::Refusal { number, place } => {
-            let bytes = text::refusal_line(number, place, out);
+        Left::Refusal(refusal) => {
+            let bytes = text::refusal_line(refusal.reason.number(), refusal.place, out);
             piece_of(progress, bytes, Left::Nothing)
         }
         // Nothing is left. Never a portion: `look_ahead` has asked for it.

@@ -1,16 +1,15 @@
 // How far the printing is: what is left, and what it takes to go on.
 ghost use Rattle.chains.specs.Pieces.{Begins};
 
+use refusals::Refusal;
 use text::counts::DIGITS;
 use ways::RECORD;
 
 // What is still to be printed.
 #[derive(Clone, Copy)]
 pub enum Left {
-    // The next portion, and what follows it; the first one where the listing was not started.
-    Portion {
-        started: u32,
-    },
+    // The next portion, and what follows it.
+    Portion,
     // The lines of the records from `next` on, so many records in all, then the last line, or more portions.
     Lines {
         next: usize,
@@ -18,18 +17,15 @@ pub enum Left {
         ended: bool,
     },
     // A refusal's line.
-    Refusal {
-        number: u32,
-        place: u32,
-    },
+    Refusal(Refusal),
     Nothing,
 }
 
-// What is left, the record behind which the next portion starts, and the chains counted so far.
+// What is left, the record behind which the next portion starts, if there is one yet, and the chains counted so far.
 #[derive(Clone, Copy)]
 pub struct Progress {
     pub left: Left,
-    pub bookmark: [u32; RECORD],
+    pub bookmark: Option<[u32; RECORD]>,
     pub counted: [u8; DIGITS],
 }
 
@@ -38,8 +34,8 @@ pub fn begin() -> Progress
     ensures { Begins result }
 {
     Progress {
-        left: Left::Portion { started: 0 },
-        bookmark: [0; RECORD],
+        left: Left::Portion,
+        bookmark: None,
         counted: [0; DIGITS],
     }
 }

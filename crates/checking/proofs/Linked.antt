@@ -16,11 +16,11 @@ use Rattle.format.proofs.Counted.{halves}
 use Rattle.checking.specs.Places.{link_place}
 use Rattle.checking.specs.Links.{rises, link_ruled, link_fault}
 use Rattle.checking.specs.Checked.{before_in, link_fault_in, owned_fault}
-use Rattle.checking.specs.declared.links.Before.{Before}
+use Rattle.std.specs.Prelude.{Option}
 use Rattle.checking.proofs.Passed.{Passed, tables_sound}
 
 -- the rules of refusals 7, 8 and 9, as facts
-pub record Ruled (counts : Counts) (owner : ℕ) (before : Before) (link : Link) : Type 0 where
+pub record Ruled (counts : Counts) (owner : ℕ) (before : Option Link) (link : Link) : Type 0 where
   pub person : link.target < counts.persons
   pub other : link.target ≡ owner → ⊥
   pub after : rises before link ≡ true
@@ -29,7 +29,7 @@ pub record Ruled (counts : Counts) (owner : ℕ) (before : Before) (link : Link)
   pub dated : link.day ≤ last_day
 
 -- a link without a fault
-pub link_facts : (counts : Counts) (owner : ℕ) (before : Before) (link : Link) (number : ℕ) → link_fault counts owner before link number ≡ sound → Ruled counts owner before link
+pub link_facts : (counts : Counts) (owner : ℕ) (before : Option Link) (link : Link) (number : ℕ) → link_fault counts owner before link number ≡ sound → Ruled counts owner before link
 unfolding link_fault link_ruled
 link_facts counts owner before link number e =
     let seven = unless_none (link_ruled counts owner before link) 7 (link_place counts number) e in

@@ -1,5 +1,5 @@
 -- A file is refused with one of its numbers, and its place is a number of 32 bits.
-use mathlib.Core.Path.{◌≡◌, refl, subst}
+use mathlib.Core.Path.{◌≡◌, refl}
 use mathlib.Core.List.{List}
 use Prim.Native.Nat.{ℕ, ◌+◌, ◌-◌, ◌^◌, ◌≤◌, ◌<◌}
 use native.Mathlib.Omega.{arith}
@@ -8,7 +8,7 @@ use Rattle.ways.specs.Graph.{among}
 use Rattle.ways.specs.Sizes.{most_persons, most_links, most_feeds}
 use Rattle.ways.proofs.Members.{among_true}
 use Rattle.refusals.specs.Faults.{sound, unless, first_of, first_among, Numbered}
-use Rattle.refusals.proofs.Numbered.{numbered_where, numbered_unless, numbered_then, numbered_first, numbered_among, up_to_bounds}
+use Rattle.refusals.proofs.Numbered.{numbered_where, numbered_unless, numbered_then, numbered_first, numbered_among}
 use Rattle.format.specs.Numbers.{within}
 use Rattle.format.specs.Format.{last_day, marked, counts_fit, laid_out, person_count, feed_count, counts_in, meaning, row, link_in}
 use Rattle.format.specs.Kinds.{class_of, known}
@@ -19,11 +19,8 @@ use Rattle.format.proofs.Counted.{file_laid}
 use Rattle.checking.specs.Places.{mark_place, counts_place, offsets_place, feed_place, entry_place, link_place}
 use Rattle.checking.specs.Links.{link_ruled, link_fault}
 use Rattle.checking.specs.Checked.{feed_ruled, feed_fault, row_ruled, row_fault, before_in, link_fault_in, owned_fault, tables_fault, file_fault, file_numbers}
-use Rattle.checking.specs.Answers.{Checks}
-use Rattle.checking.specs.declared.links.Before.{Before}
-use Rattle.checking.specs.declared.Verdict as code
+use Rattle.std.specs.Prelude.{Option}
 use Rattle.checking.proofs.Tabled.{rows_below}
-use Rattle.checking.proofs.Passed.{refused_said}
 
 -- ---- each place is a number of 32 bits
 counts_placed : (file : List ℕ) → counts_place file < 2 ^ 32
@@ -58,7 +55,7 @@ row_numbered : (file : List ℕ) (entry : ℕ) → entry_place (counts_in file) 
 unfolding row_fault among
 row_numbered file entry h = numbered_unless file_numbers (row_ruled file entry) 6 (entry_place (counts_in file) entry) sound (among_true 6 file_numbers refl, h) tt
 
-link_numbered : (counts : Counts) (owner : ℕ) (before : Before) (link : Link) (number : ℕ) → link_place counts number < 2 ^ 32 → Numbered file_numbers (link_fault counts owner before link number)
+link_numbered : (counts : Counts) (owner : ℕ) (before : Option Link) (link : Link) (number : ℕ) → link_place counts number < 2 ^ 32 → Numbered file_numbers (link_fault counts owner before link number)
 unfolding link_fault among
 link_numbered counts owner before link number h =
     let place = link_place counts number in
@@ -72,7 +69,7 @@ module _ {file : List ℕ} (laid : Laid file (counts_in file)) where
   owned_numbered : first_among (row_fault file) 0 (person_count file + 1) ≡ sound → (owner : ℕ) → owner < person_count file → Numbered file_numbers (owned_fault file owner)
   unfolding owned_fault link_fault_in
   owned_numbered rows owner h =
-      let below = rows_below (record { laid = laid; rows = rows }) in
+      let below = rows_below laid rows in
       let low = below owner (omega (arith, laid.persons)) in
       let high = below (owner + 1) (omega (arith, laid.persons)) in
       numbered_among file_numbers (link_fault_in file owner) (row file owner) (row file (owner + 1) - row file owner) (λ link inside. link_numbered (counts_in file) owner (before_in file owner link) (link_in file link) link (link_placed (counts_in file) link laid.many_persons laid.many_feeds (omega (arith, laid.many_links))))
@@ -94,7 +91,3 @@ file_numbered file =
     numbered_unless file_numbers (marked file) 1 mark_place (unless (counts_fit file) 2 counts (unless (laid_out file) 3 offsets (tables_fault file))) (among_true 1 file_numbers refl, omega arith)
     (numbered_where file_numbers (counts_fit file) 2 counts (unless (laid_out file) 3 offsets (tables_fault file)) (among_true 2 file_numbers refl, counts_placed file)
     (λ fits. numbered_where file_numbers (laid_out file) 3 offsets (tables_fault file) (among_true 3 file_numbers refl, offsets_placed file) (λ lays. tables_numbered (file_laid file fits lays))))
-
--- the same by the answer of `check`
-pub refused_number : (file : List ℕ) {answer : code.Verdict} {number place : ℕ} → Checks file answer → answer ≡ code.TheVariants.Refused number place → number ≤ 9
-refused_number file checks is = up_to_bounds 9 file_numbers refl (subst (Numbered file_numbers) (refused_said file checks is) (file_numbered file)).0

@@ -4,18 +4,18 @@ use mathlib.Core.Bool.{Bool, true, false}
 use mathlib.Core.List.{List}
 use Prim.Native.Nat.{ℕ, ◌+◌, ◌<◌, ◌≤◌}
 use native.Mathlib.Omega.{arith}
-use Rattle.format.specs.Format.{marked, counts_fit, laid_out, person_count, link_count, feed_count, row}
+use Rattle.format.specs.Format.{marked, counts_fit, laid_out, person_count, link_count, feed_count, counts_in, row}
 use Rattle.checking.specs.Verdict.{passed, refused, verdict}
-use Rattle.refusals.specs.Faults.{Fault, sound, fault, unless, first_of, first_among}
+use Rattle.refusals.specs.Faults.{Fault, sound, fault, unless, first_of, first_among, refusal_said}
 use Rattle.checking.specs.Places.{mark_place, counts_place, offsets_place}
 use Rattle.checking.specs.Checked.{feed_fault, row_fault, owned_fault, tables_fault, file_fault, checked}
 use Rattle.format.specs.Laid.{Laid}
-use Rattle.checking.specs.Inside.{Rowed}
 use Rattle.checking.specs.Answers.{verdict_said, Checks}
-use Rattle.checking.specs.declared.Verdict as code
+use Rattle.std.specs.Prelude.{Result, Ok, Err}
+use Rattle.refusals.specs.declared.Refusal.{Refusal}
 use Rattle.format.specs.declared.layout.Counts.{Counts}
 use Rattle.refusals.proofs.Faults.{first_both}
-use Rattle.format.proofs.Counted.{Fitting, counts_fit_lem}
+use Rattle.format.proofs.Counted.{Fitting, counts_fit_lem, file_laid}
 use Rattle.checking.proofs.Tabled.{rows-keep, rows_below}
 
 -- the rules of a file that passed
@@ -69,14 +69,21 @@ passed_rules file e =
     record { marks = s.marks; fits = s.fits; lays = s.lays; tables = s.tables; persons = v.persons; links = v.links; feeds = v.feeds }
 
 -- the same by the answer of `check`
-pub faultless_said : {file : List ℕ} {answer : code.Verdict} {n m f : ℕ} → Checks file answer → answer ≡ code.TheVariants.Passed n m f → Verdicts file n m f
+pub faultless_said : {file : List ℕ} {answer : Result Counts Refusal} {counts : Counts} → Checks file answer → answer ≡ Ok counts → Verdicts file counts.persons counts.links counts.feeds
 faultless_said {file} checks is = passed_verdict file (sym checks ∙ ap verdict_said is)
 
-pub refused_said : (file : List ℕ) {answer : code.Verdict} {number place : ℕ} → Checks file answer → answer ≡ code.TheVariants.Refused number place → file_fault file ≡ fault number place
+pub refused_said : (file : List ℕ) {answer : Result Counts Refusal} {refusal : Refusal} → Checks file answer → answer ≡ Err refusal → file_fault file ≡ refusal_said refusal
 refused_said file checks is = refused_verdict file (sym checks ∙ ap verdict_said is)
 
-pub passed_said : {file : List ℕ} {answer : code.Verdict} {n m f : ℕ} → Checks file answer → answer ≡ code.TheVariants.Passed n m f → Passed file n m f
+pub passed_said : {file : List ℕ} {answer : Result Counts Refusal} {counts : Counts} → Checks file answer → answer ≡ Ok counts → Passed file counts.persons counts.links counts.feeds
 passed_said {file} checks is = passed_rules file (sym checks ∙ ap verdict_said is)
+
+-- and the counts of its verdict are the header's
+pub passed_laid : (file : List ℕ) {counts : Counts} → checked file ≡ passed counts.persons counts.links counts.feeds → Laid file counts
+passed_laid file {counts} e =
+    let p = passed_rules file e in
+    let laid = file_laid file p.fits p.lays in
+    let same : counts ≡ counts_in file = rw (← p.persons, ← p.links, ← p.feeds) in rw same laid
 
 -- each of the three tables is sound
 pub record Tables (file : List ℕ) : Type 0 where
@@ -94,9 +101,6 @@ tables_sound file e =
     let second = first_both rows links first.1 in
     record { feeds = first.0; rows = second.0; links = second.1 }
 
-pub passed_rowed : {file : List ℕ} {counts : Counts} {n m f : ℕ} → Laid file counts → Passed file n m f → Rowed file counts
-passed_rowed {file} laid p = record { laid = laid; rows = (tables_sound file p.tables).rows }
-
 -- where a row that passed lies
 pub record Lies (file : List ℕ) (counts : Counts) (person : ℕ) : Type 0 where
   pub inside : person < counts.persons
@@ -105,9 +109,12 @@ pub record Lies (file : List ℕ) (counts : Counts) (person : ℕ) : Type 0 wher
 
 pub row_lies : {file : List ℕ} {counts : Counts} {n m f person : ℕ} → Laid file counts → Passed file n m f → person < n → Lies file counts person
 row_lies {file} {counts} {person = person} laid p h =
-    let rowed = passed_rowed laid p in
+    let rows = (tables_sound file p.tables).rows in
     let inside : person < counts.persons = omega (arith, laid.persons, p.persons) in
-    record { inside = inside; keeps = rows-keep rowed person inside; below = rows_below rowed (person + 1) (omega arith) }
+    record { inside = inside; keeps = rows-keep laid rows person inside; below = rows_below laid rows (person + 1) (omega arith) }
+
+pub passed_lies : (file : List ℕ) {counts : Counts} (person : ℕ) → checked file ≡ passed counts.persons counts.links counts.feeds → person < counts.persons → Lies file counts person
+passed_lies file person e h = row_lies (passed_laid file e) (passed_rules file e) h
 
 -- the counts of a file that passed are within their limits
 pub passed_fits : {file : List ℕ} {n m f : ℕ} → Passed file n m f → Fitting n m f

@@ -1,18 +1,20 @@
 -- The promises of the two public operations, one predicate each. Definitions only.
-use Rattle.std.specs.Prelude.{◌≡◌, List, ℕ, ◌+◌}
+use Rattle.std.specs.Prelude.{◌≡◌, List, ℕ, ◌+◌, Result, Ok, Err}
 use Rattle.std.specs.Borrow.{Bor}
 use Rattle.checking.specs.Verdict.{Verdict, passed, refused}
 use Rattle.checking.specs.Checked.{checked}
 use Rattle.checking.specs.Rows.{view_start, row_view}
-use Rattle.checking.specs.declared.Verdict as code
+use Rattle.refusals.specs.Reasons.{number_of}
+use Rattle.refusals.specs.declared.Refusal.{Refusal}
+use Rattle.format.specs.declared.layout.Counts.{Counts}
 
--- what the code's enum says, in the customer's numbers
-abbrev pub verdict_said : code.Verdict → Verdict
-verdict_said (code.TheVariants.Passed n m f) = passed n m f
-verdict_said (code.TheVariants.Refused number place) = refused number place
+-- what the code's answer says, in the customer's numbers
+abbrev pub verdict_said : Result Counts Refusal → Verdict
+verdict_said (Ok counts) = passed counts.persons counts.links counts.feeds
+verdict_said (Err refusal) = refused (number_of refusal.reason) refusal.place
 
 -- check: the answer is the verdict on the file
-abbrev pub Checks : List ℕ → code.Verdict → Type 0
+abbrev pub Checks : List ℕ → Result Counts Refusal → Type 0
 Checks file answer = verdict_said answer ≡ checked file
 
 -- row view: its bytes are the person's part of the file, and it lies in the lent file where that part stands

@@ -1,12 +1,12 @@
 -- What is checked of a file, in the order of the refusal numbers. Definitions only.
-use Rattle.std.specs.Prelude.{List, [], ◌∷◌, Bool, true, ◌&&◌, cond, ℕ, ◌+◌, ◌-◌, eqb, leb, ltb}
+use Rattle.std.specs.Prelude.{List, [], ◌∷◌, Bool, true, ◌&&◌, cond, ℕ, ◌+◌, ◌-◌, eqb, leb, ltb, Option, Some, None}
 use Rattle.refusals.specs.Faults.{Fault, sound, unless, first_of, first_among}
 use Rattle.format.specs.Numbers.{within}
 use Rattle.format.specs.Format.{marked, counts_fit, laid_out, person_count, link_count, feed_count, counts_in, archive, meaning, feed_zero, row, link_in}
 use Rattle.checking.specs.Places.{mark_place, counts_place, offsets_place, feed_place, entry_place}
 use Rattle.checking.specs.Links.{link_fault}
 use Rattle.checking.specs.Verdict.{Verdict, verdict}
-use Rattle.checking.specs.declared.links.Before as code
+use Rattle.format.specs.declared.links.Link.{Link}
 
 -- A feed: archive number 1 or more, strictly rising, a zero byte.
 unfoldable pub archive_rises : List ℕ → ℕ → Bool
@@ -35,8 +35,8 @@ unfoldable pub row_fault : List ℕ → ℕ → Fault
 row_fault file entry = unless (row_ruled file entry) 6 (entry_place (counts_in file) entry) sound
 
 -- Links in file order: the first of a row has none before it that counts, any other has the one before it.
-abbrev pub before_in : List ℕ → ℕ → ℕ → code.Before
-before_in file owner link = cond (eqb link (row file owner)) code.TheVariants.Nothing (code.TheVariants.Counted (link_in file (link - 1)))
+abbrev pub before_in : List ℕ → ℕ → ℕ → Option Link
+before_in file owner link = cond (eqb link (row file owner)) None (Some (link_in file (link - 1)))
 
 unfoldable pub link_fault_in : List ℕ → ℕ → ℕ → Fault
 link_fault_in file owner link = link_fault (counts_in file) owner (before_in file owner link) (link_in file link) link

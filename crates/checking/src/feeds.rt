@@ -1,63 +1,60 @@
 // The rules of the feed table, 4 and 5.
-ghost use Rattle.std.specs.Prelude.{◌≡◌, ◌+◌, ◌≤◌, ◌<◌, length};
-ghost use Rattle.ways.specs.Sizes.{most_feeds};
+ghost use Rattle.std.specs.Prelude.{◌≡◌, ◌<◌};
 ghost use Rattle.refusals.specs.Faults.{fault_said, first_among};
-ghost use Rattle.format.specs.Format.{feed_at, feed_size, feed_count};
-ghost use Rattle.format.specs.Laid.{Laid};
+ghost use Rattle.format.specs.Format.{feed_count};
 ghost use Rattle.checking.specs.Checked.{archive_rises, feed_ruled, feed_fault};
 
 use crate::places;
-use format::layout::Counts;
-use format::{feeds, numbers};
-use refusals::Fault;
+use format::feeds::Feed;
+use format::file::LinkFile;
+use format::numbers;
+use refusals::{Reason, Refusal, unless};
 
 // The first feed has nothing to rise above.
-fn archive_rises(file: &[u8], feed: usize) -> bool
-    requires { (feed < most_feeds) × (feed_at feed + feed_size ≤ length file.now) }
-    ensures { result ≡ archive_rises file.now feed }
+#[tactic(auto, unfolding(crate::specs::Checked::archive_rises))]
+fn archive_rises(feed: Feed<'_>) -> bool
+    ensures { result ≡ archive_rises feed.entry.bytes.now feed.entry.number }
 {
-    if feed == 0 {
+    if feed.number == 0 {
         return true;
     }
-    feeds::archive(file, feed - 1) < feeds::archive(file, feed)
+    let before = Feed {
+        bytes: feed.bytes,
+        number: feed.number - 1,
+    };
+    before.archive() < feed.archive()
 }
 
 // The rule of refusal 4.
 #[tactic(auto, unfolding(crate::specs::Checked::feed_ruled))]
-fn feed_ruled(file: &[u8], feed: usize) -> bool
-    requires { (feed < most_feeds) × (feed_at feed + feed_size ≤ length file.now) }
-    ensures { result ≡ feed_ruled file.now feed }
+fn feed_ruled(feed: Feed<'_>) -> bool
+    ensures { result ≡ feed_ruled feed.entry.bytes.now feed.entry.number }
 {
-    1 <= feeds::archive(file, feed) && archive_rises(file, feed) && feeds::zero(file, feed) == 0
+    1 <= feed.archive() && archive_rises(feed) && feed.zero() == 0
 }
 
 // One feed: 4 before 5.
-fn feed_fault(file: &[u8], counts: Counts, feed: usize) -> Fault
-    requires { (Laid file.now counts) × (feed < counts.feeds) }
-    ensures { fault_said result ≡ feed_fault file.now feed }
+#[tactic(auto, using(format::proofs::Counted::counts_are), unfolding(crate::specs::Checked::feed_fault))]
+fn feed_fault(file: LinkFile<'_>, number: usize) -> Result<(), Refusal>
+    requires { number < file.counts.feeds }
+    ensures { fault_said result ≡ feed_fault file.entry.bytes.now number }
 {
-    let place = places::of_feed(counts, feed);
-    if !feed_ruled(file, feed) {
-        return Fault::At(4, place);
-    }
-    if !numbers::within(1, 2, feeds::meaning(file, feed)) {
-        return Fault::At(5, place);
-    }
-    Fault::Sound
+    let place = places::of_feed(file.counts, number);
+    let feed = file.feed(number);
+    unless(feed_ruled(feed), Reason::Feed, place)?;
+    unless(
+        numbers::within(1, 2, feed.meaning()),
+        Reason::FeedMeaning,
+        place,
+    )
 }
 
 // The first fault of the feed table.
-pub fn feeds_fault(file: &[u8], counts: Counts) -> Fault
-    requires { Laid file.now counts }
-    ensures { fault_said result ≡ first_among (feed_fault file.now) 0 (feed_count file.now) }
+pub fn feeds_fault(file: LinkFile<'_>) -> Result<(), Refusal>
+    ensures { fault_said result ≡ first_among (feed_fault file.entry.bytes.now) 0 (feed_count file.entry.bytes.now) }
 {
-    let feeds = counts.feeds;
-    let mut feed = 0;
-    while feed < feeds {
-        if let Fault::At(number, place) = feed_fault(file, counts, feed) {
-            return Fault::At(number, place);
-        }
-        feed += 1;
+    for number in 0..file.counts.feeds {
+        feed_fault(file, number)?;
     }
-    Fault::Sound
+    Ok(())
 }

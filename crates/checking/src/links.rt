@@ -8,31 +8,22 @@ ghost use Rattle.checking.specs.Checked.{owned_fault};
 ghost use Rattle.checking.specs.Inside.{Rowed};
 
 use crate::places;
+use format::file::LinkFile;
+use format::kinds;
 use format::layout::Counts;
 use format::links::{LAST_DAY, Link};
-use format::{kinds, links, rows};
-use refusals::Fault;
+use refusals::{Reason, Refusal, unless};
 
-// The link before it that counts, if there is one: the first of a row has nothing to rise above.
-#[derive(Clone, Copy)]
-pub enum Before {
-    Nothing,
-    Counted(Link),
-}
-
-// In one row the targets strictly rise.
-fn rises(before: Before, link: Link) -> bool
+// In one row the targets strictly rise, above the link before that counts: the first of a row has nothing to rise above.
+fn rises(before: Option<Link>, link: Link) -> bool
     ensures { result ≡ rises before link }
 {
-    match before {
-        Before::Nothing => true,
-        Before::Counted(lower) => lower.target < link.target,
-    }
+    before.is_none_or(|lower| lower.target < link.target)
 }
 
 // The rule of refusal 7.
 #[tactic(auto, unfolding(crate::specs::Links::link_ruled))]
-fn link_ruled(counts: Counts, owner: usize, before: Before, link: Link) -> bool
+fn link_ruled(counts: Counts, owner: usize, before: Option<Link>, link: Link) -> bool
     ensures { result ≡ link_ruled counts owner before link }
 {
     let target = link.target as usize;
@@ -45,45 +36,42 @@ fn link_ruled(counts: Counts, owner: usize, before: Before, link: Link) -> bool
 }
 
 // One link, 7, 8, 9: as the link of this number among the owner's.
-pub fn link_fault(counts: Counts, owner: usize, before: Before, link: Link, number: usize) -> Fault
+#[tactic(auto, unfolding(crate::specs::Links::link_fault))]
+pub fn link_fault(
+    counts: Counts,
+    owner: usize,
+    before: Option<Link>,
+    link: Link,
+    number: usize,
+) -> Result<(), Refusal>
     requires { (counts.persons ≤ most_persons) × (counts.feeds ≤ most_feeds) × (number ≤ most_links) }
     ensures { fault_said result ≡ link_fault counts owner before link number }
 {
     let place = places::of_link(counts, number);
-    if !link_ruled(counts, owner, before, link) {
-        return Fault::At(7, place);
-    }
-    if !kinds::known(link.kind) {
-        return Fault::At(8, place);
-    }
-    if LAST_DAY < link.day {
-        return Fault::At(9, place);
-    }
-    Fault::Sound
+    unless(link_ruled(counts, owner, before, link), Reason::Link, place)?;
+    unless(kinds::known(link.kind), Reason::Kind, place)?;
+    unless(link.day <= LAST_DAY, Reason::Day, place)
 }
 
 // The first fault of the link table. Both loops are left at the first fault.
-pub fn links_fault(file: &[u8], counts: Counts) -> Fault
-    requires { Rowed file.now counts }
-    ensures { fault_said result ≡ first_among (owned_fault file.now) 0 (person_count file.now) }
+pub fn links_fault(file: LinkFile<'_>) -> Result<(), Refusal>
+    requires { Rowed file.bytes.now }
+    ensures { fault_said result ≡ first_among (owned_fault file.entry.bytes.now) 0 (person_count file.entry.bytes.now) }
 {
-    let persons = counts.persons;
-    let mut found = Fault::Sound;
-    let mut owner = 0;
-    'persons: while owner < persons {
-        let end = rows::entry(file, counts, owner + 1);
-        let mut number = rows::entry(file, counts, owner);
-        let mut before = Before::Nothing;
-        while number < end {
-            let link = links::link_in(file, counts, number);
+    let mut found = Ok(());
+    let counts = file.counts;
+    'persons: for owner in 0..counts.persons {
+        let start = file.entry(owner);
+        let end = file.entry(owner + 1);
+        let mut before = None;
+        for number in start..end {
+            let link = file.link(number);
             found = link_fault(counts, owner, before, link, number);
-            if let Fault::At(_, _) = found {
+            if found.is_err() {
                 break 'persons;
             }
-            before = Before::Counted(link);
-            number += 1;
+            before = Some(link);
         }
-        owner += 1;
     }
     found
 }

@@ -2,64 +2,61 @@
 ghost use Rattle.std.specs.Prelude.{◌≡◌, ◌+◌, ◌≤◌};
 ghost use Rattle.refusals.specs.Faults.{fault_said, first_among};
 ghost use Rattle.format.specs.Format.{person_count};
-ghost use Rattle.format.specs.Laid.{Laid};
 ghost use Rattle.checking.specs.Checked.{row_starts_or_keeps, row_closes, row_ruled, row_fault};
 
 use crate::places;
-use format::layout::Counts;
-use format::rows;
-use refusals::Fault;
+use format::file::LinkFile;
+use refusals::{Reason, Refusal, unless};
 
 // Entry 0 is 0, and no other is lower than the one before.
-fn starts_or_keeps(file: &[u8], counts: Counts, at: usize) -> bool
-    requires { (Laid file.now counts) × (at ≤ counts.persons) }
-    ensures { result ≡ row_starts_or_keeps file.now at }
+#[tactic(auto, unfolding(crate::specs::Checked::row_starts_or_keeps))]
+fn starts_or_keeps(file: LinkFile<'_>, at: usize) -> bool
+    requires { at ≤ file.counts.persons }
+    ensures { result ≡ row_starts_or_keeps file.entry.bytes.now at }
 {
     if at == 0 {
-        return rows::entry(file, counts, at) == 0;
+        return file.entry(at) == 0;
     }
-    rows::entry(file, counts, at - 1) <= rows::entry(file, counts, at)
+    file.entry(at - 1) <= file.entry(at)
 }
 
 // Entry n is m.
-fn ends(file: &[u8], counts: Counts, at: usize) -> bool
-    requires { (Laid file.now counts) × (at ≤ counts.persons) }
-    ensures { result ≡ row_closes file.now at }
+#[tactic(auto, unfolding(crate::specs::Checked::row_closes))]
+fn ends(file: LinkFile<'_>, at: usize) -> bool
+    requires { at ≤ file.counts.persons }
+    ensures { result ≡ row_closes file.entry.bytes.now at }
 {
-    at != counts.persons || rows::entry(file, counts, at) == counts.links
+    at != file.counts.persons || file.entry(at) == file.counts.links
 }
 
 // The rule of refusal 6, clause by clause: the first entry is 0, none falls, the last is the number of links.
-fn row_ruled(file: &[u8], counts: Counts, at: usize) -> bool
-    requires { (Laid file.now counts) × (at ≤ counts.persons) }
-    ensures { result ≡ row_ruled file.now at }
+#[tactic(auto, unfolding(crate::specs::Checked::row_ruled))]
+fn row_ruled(file: LinkFile<'_>, at: usize) -> bool
+    requires { at ≤ file.counts.persons }
+    ensures { result ≡ row_ruled file.entry.bytes.now at }
 {
-    starts_or_keeps(file, counts, at) && ends(file, counts, at)
+    starts_or_keeps(file, at) && ends(file, at)
 }
 
 // One entry.
-fn row_fault(file: &[u8], counts: Counts, at: usize) -> Fault
-    requires { (Laid file.now counts) × (at ≤ counts.persons) }
-    ensures { fault_said result ≡ row_fault file.now at }
+#[tactic(auto, using(format::proofs::Counted::counts_are), unfolding(crate::specs::Checked::row_fault))]
+fn row_fault(file: LinkFile<'_>, at: usize) -> Result<(), Refusal>
+    requires { at ≤ file.counts.persons }
+    ensures { fault_said result ≡ row_fault file.entry.bytes.now at }
 {
-    if !row_ruled(file, counts, at) {
-        return Fault::At(6, places::of_entry(counts, at));
-    }
-    Fault::Sound
+    unless(
+        row_ruled(file, at),
+        Reason::Entry,
+        places::of_entry(file.counts, at),
+    )
 }
 
 // The lowest entry that breaks the rule.
-pub fn rows_fault(file: &[u8], counts: Counts) -> Fault
-    requires { Laid file.now counts }
-    ensures { fault_said result ≡ first_among (row_fault file.now) 0 (person_count file.now + 1) }
+pub fn rows_fault(file: LinkFile<'_>) -> Result<(), Refusal>
+    ensures { fault_said result ≡ first_among (row_fault file.entry.bytes.now) 0 (person_count file.entry.bytes.now + 1) }
 {
-    let entries = counts.persons + 1;
-    let mut at = 0;
-    while at < entries {
-        if let Fault::At(number, place) = row_fault(file, counts, at) {
-            return Fault::At(number, place);
-        }
-        at += 1;
+    for at in 0..file.counts.persons + 1 {
+        row_fault(file, at)?;
     }
-    Fault::Sound
+    Ok(())
 }

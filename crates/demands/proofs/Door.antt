@@ -32,8 +32,7 @@ use Rattle.distance.specs.Answers as distance
 use Rattle.portion.specs.Listing.{listing_for, portion_fault, portion_numbers, portion_for, ended_for}
 use Rattle.listing.specs.Portions.{Start, refusal_of, portion_of, ended_of}
 use Rattle.listing.specs.Answers.{PortionOf}
-use Rattle.refusals.specs.Answers.{Answer, listed, answer_said, answer_for}
-use Rattle.refusals.specs.declared.Answer as code
+use Rattle.refusals.specs.Answers.{Answer, listed, answer_said, answer_for, Told}
 use Rattle.portion.proofs.Instance.{portion_numbered, chains-listing}
 use Rattle.rings.specs.Rings.{rings_numbers}
 use Rattle.rings.proofs.Instance.{rings_numbered}
@@ -46,7 +45,8 @@ use Rattle.join.proofs.Numbered.{join_numbered}
 use Rattle.outside.specs.Encoded.{refusal_number, ended_number, listed_number, Small, CheckNumber, RowNumber, FewestNumber, ListingNumber, JoinNumber}
 use Rattle.outside.specs.HeldCells.{held_whole, held_of, cells_of_held, MovedCells, HeldNumber}
 use Rattle.outside.specs.TakenApart.{count_in, persons_in, links_in, feeds_in}
-use Rattle.outside.proofs.Numbered.{ended_few, highest}
+use Rattle.refusals.specs.Reasons.{highest}
+use Rattle.outside.proofs.Numbered.{ended_few}
 use Rattle.outside.proofs.HeldCells.{whole_sizes, held_kept, moved_to, held_back}
 use Rattle.outside.proofs.OneResult.{stored_as_today}
 use Rattle.outside.proofs.TakenApart.{refusal_apart, listed_apart, counts_apart}
@@ -124,7 +124,7 @@ listing_tells first numbers count ended {said} {answer} few numbered is small to
     (omega (arith, number, fits, ended_few ended), rw number (listed_apart count ended fits)))
     (λ number place e. (told ∙ rw (is, e), unchanged number place e))
 
-portion_tells : {first : Fault} {chains : List (List ℕ)} {start : Start} {out out' : List ℕ} {answer : code.Answer} {number : ℕ} {Unchanged : Type 0} (numbers : List ℕ) → up_to highest numbers ≡ true → Numbered numbers (refusal_of first chains start out)
+portion_tells : {first : Fault} {chains : List (List ℕ)} {start : Start} {out out' : List ℕ} {answer : Told} {number : ℕ} {Unchanged : Type 0} (numbers : List ℕ) → up_to highest numbers ≡ true → Numbered numbers (refusal_of first chains start out)
     → PortionOf first chains start out out' answer → Small (answer_said answer) → number ≡ listed_number (answer_said answer)
     → ((r place : ℕ) → refusal_of first chains start out ≡ fault r place → Unchanged)
     → Tells (refusal_of first chains start out) numbers number Unchanged (Listed number (length (portion_of chains start out)) (ended_of chains start out))
@@ -214,7 +214,7 @@ module _ {file cells cells' out out' : List ℕ} {answer : ℕ} (h : HeldNumber 
       go true e = none_stays e (h.moved e) zero
       go false e = let w = h.wrong_size e in (w.1, w.2)
 
-  kin_held_moves_lem : held_whole (length cells) ≡ true → (said : code.Answer) × MovedOn file (held_of cells) (held_of cells') out out' said × (answer ≡ listed_number (answer_said said))
+  kin_held_moves_lem : held_whole (length cells) ≡ true → (said : Told) × MovedOn file (held_of cells) (held_of cells') out out' said × (answer ≡ listed_number (answer_said said))
   kin_held_moves_lem whole = let m = h.moved whole in (m.answer, moves_on whole m, m.answers)
 
 pub at_the_door : AtTheDoor

@@ -14,7 +14,8 @@ use Rattle.refusals.specs.Faults.{Fault, sound, fault, first_of, Numbered}
 use Rattle.checking.specs.Checked.{file_fault, file_numbers, checked}
 use Rattle.checking.specs.Rows.{view_start, view_end}
 use Rattle.checking.specs.Answers.{verdict_said, Checks, Views}
-use Rattle.checking.specs.declared.Verdict.{Verdict}
+use Rattle.std.specs.Prelude.{Result}
+use Rattle.format.specs.declared.layout.Counts.{Counts}
 use Rattle.checking.proofs.Numbered.{file_numbered}
 use Rattle.ways.specs.Fewest.{fewest}
 use Rattle.question.specs.declared.Question.{Question}
@@ -22,13 +23,12 @@ use Rattle.question.specs.Admission.{next}
 use Rattle.question.specs.Asked.{person_fault, asked_numbers}
 use Rattle.question.proofs.Numbered.{person_numbered}
 use Rattle.distance.specs.Answers as distance
-use Rattle.distance.specs.declared.HopsAnswer as hops
+use Rattle.refusals.specs.declared.Refusal.{Refusal}
 use Rattle.portion.specs.Listing.{portion_fault, portion_numbers, Portioned}
 use Rattle.listing.specs.Portions.{Start, refusal_of, portion_of, ended_of}
 use Rattle.listing.specs.Answers.{PortionOf}
 use Rattle.listing.proofs.Telling.{refused_fault}
-use Rattle.refusals.specs.Answers.{refused, answer_said, answer_for}
-use Rattle.refusals.specs.declared.Answer.{Answer}
+use Rattle.refusals.specs.Answers.{refused, answer_said, answer_for, Told}
 use Rattle.portion.proofs.Instance.{portion_numbered}
 use Rattle.rings.specs.Rings.{rings_numbers}
 use Rattle.rings.proofs.Instance.{rings_numbered}
@@ -47,7 +47,7 @@ module _ {A : Type 0} (refused : ℕ → ℕ → A) (answer_by : Fault → A) (s
         refuses = λ number place e. (is ∙ ap answer_by e ∙ says number place, (subst (Numbered numbers) e numbered).0);
       }
 
-check_ends : (file : List ℕ) (answer : Verdict) → Checks file answer → Ends verdict.refused (file_fault file) file_numbers (verdict_said answer)
+check_ends : (file : List ℕ) (answer : Result Counts Refusal) → Checks file answer → Ends verdict.refused (file_fault file) file_numbers (verdict_said answer)
 unfolding checked
 check_ends file answer is =
     ends_by verdict.refused (λ f. verdict.verdict f (person_count file) (link_count file) (feed_count file)) (λ number place. refl)
@@ -69,7 +69,7 @@ row_ends file view person v why = v.bytes ∙ go (file_fault file.now) why
     go sound (inl n) = absurd (n refl)
     go sound (inr h) = rw (le-ltb person (person_count file.now) h)
 
-fewest_ends : (file : List ℕ) (q : Question) (person : ℕ) (answer : hops.HopsAnswer) → distance.FewestHops file q person answer
+fewest_ends : (file : List ℕ) (q : Question) (person : ℕ) (answer : Result ℕ Refusal) → distance.FewestHops file q person answer
     → Ends distance.refused (first_of (file_fault file) (person_fault (person_count file) q person)) asked_numbers (distance.hops_said answer)
 unfolding distance.answered
 fewest_ends file q person answer is =
@@ -77,20 +77,20 @@ fewest_ends file q person answer is =
     (λ number place e. let z : ◌≡◌ {A = ℕ} 0 1 = cc in omega arith) (first_of (file_fault file) (person_fault (person_count file) q person)) asked_numbers (person_numbered file q person) is
 
 -- a portion of any listing and a join answer alike
-listing_ends : (first : Fault) (numbers : List ℕ) (count : ℕ) (ended : Bool) (answer : Answer) → Numbered numbers first → answer_said answer ≡ answer_for first count ended → Ends refused first numbers (answer_said answer)
+listing_ends : (first : Fault) (numbers : List ℕ) (count : ℕ) (ended : Bool) (answer : Told) → Numbered numbers first → answer_said answer ≡ answer_for first count ended → Ends refused first numbers (answer_said answer)
 listing_ends first numbers count ended answer numbered is =
     ends_by refused (λ f. answer_for f count ended) (λ number place. refl) (λ number place e. let z : ◌≡◌ {A = ℕ} 0 1 = cc in omega arith) first numbers numbered is
 
-portion_ends : {first : Fault} {chains : List (List ℕ)} {start : Start} {out out' : List ℕ} {answer : Answer} (numbers : List ℕ) → Numbered numbers (refusal_of first chains start out) → PortionOf first chains start out out' answer
+portion_ends : {first : Fault} {chains : List (List ℕ)} {start : Start} {out out' : List ℕ} {answer : Told} (numbers : List ℕ) → Numbered numbers (refusal_of first chains start out) → PortionOf first chains start out out' answer
     → Ends refused (refusal_of first chains start out) numbers (answer_said answer)
 portion_ends {first} {chains} {start} {out} {answer = answer} numbers numbered p =
     listing_ends (refusal_of first chains start out) numbers (length (portion_of chains start out)) (ended_of chains start out) answer numbered p.answers
 
-chains_end : (file : List ℕ) (q : Question) {start : Start} {out out' : List ℕ} {answer : Answer} → Portioned file q start out out' answer
+chains_end : (file : List ℕ) (q : Question) {start : Start} {out out' : List ℕ} {answer : Told} → Portioned file q start out out' answer
     → Ends refused (portion_fault file q start out) portion_numbers (answer_said answer)
 chains_end file q {start} {out} p = portion_ends portion_numbers (portion_numbered file q start out) p
 
-join_ends : (file : List ℕ) (q : Question) {working working' out out' : List ℕ} {answer : Answer} → Joins file q working working' out out' answer
+join_ends : (file : List ℕ) (q : Question) {working working' out out' : List ℕ} {answer : Told} → Joins file q working working' out out' answer
     → Ends refused (join_fault file q working out) join_numbers (answer_said answer)
 join_ends file q {working} {out = out} {answer = answer} j =
     listing_ends (join_fault file q working out) join_numbers (length (first_ones (chains_for file q) out)) (all_fit (chains_for file q) out) answer (join_numbered file q working out) j.answers

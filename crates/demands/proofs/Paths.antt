@@ -1,4 +1,5 @@
 -- Demand 2: the simple paths of the customer's words are the chains over the graph of the admitted links, and these are what is listed.
+use Rattle.refusals.specs.Answers.{Told}
 use mathlib.Core.Path.{◌≡◌, refl, ◌∙◌}
 use mathlib.Core.Logic.{◌≢◌, ◌↔◌}
 use mathlib.Core.List.Memᴰ
@@ -25,7 +26,6 @@ use Rattle.question.proofs.Leads.{next_led, led_next}
 use Rattle.portion.specs.Listing.{listing_for}
 use Rattle.listing.specs.Portions.{Listing, fresh}
 use Rattle.listing.specs.Answers.{PortionOf}
-use Rattle.refusals.specs.declared.Answer.{Answer}
 use Rattle.question.proofs.Answerable.{asked_differ}
 use Rattle.portion.proofs.Instance.{rows, chains-listing}
 use Rattle.listing.proofs.Known.{passes, fresh_all}
@@ -43,7 +43,7 @@ holds_just {Is} {first} {chains} asked is just =
       portion = portion_lists;
     }
   where
-    portion_lists : {out out' : List ℕ} {answer : Answer} → record_size ≤ length out → PortionOf first chains fresh out out' answer → Lists chains out out' answer
+    portion_lists : {out out' : List ℕ} {answer : Told} → record_size ≤ length out → PortionOf first chains fresh out out' answer → Lists chains out out' answer
     portion_lists {out} h p =
         let passing = passes chains asked fresh out refl h in
         record { says = p.answers ∙ rw (passing, fresh_all is); cells = p.cells ∙ rw (passing, fresh_all is) }

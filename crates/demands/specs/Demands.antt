@@ -1,14 +1,14 @@
 -- The customer's three demands, one statement each. Each of the customer's sentences stands word for word above the one field that says it; the first two
 -- of demand 3 say what is given, which is a `Run`. Demands 2 and 3 are said of any listing, then of the chains and of the rings. Fields that no sentence
 -- stands above say more: what follows, what the operations write, and the same after bookmarks and of held listings. Definitions only; proofs/Demands proves them.
-use Rattle.std.specs.Prelude.{◌≡◌, ◌≢◌, ◌↔◌, ◌⊎◌, true, List, [], ◌∷◌, reverse, ℕ, ◌≤◌, length, take}
+use Rattle.std.specs.Prelude.{Result, ◌≡◌, ◌≢◌, ◌↔◌, ◌⊎◌, true, List, [], ◌∷◌, reverse, ℕ, ◌≤◌, length, take}
 use Rattle.std.specs.Borrow.{Bor}
 use Rattle.format.specs.Format.{person_count}
 use Rattle.checking.specs.Verdict as verdict
 use Rattle.refusals.specs.Faults.{Fault, sound, fault, first_of}
 use Rattle.checking.specs.Checked.{file_fault, file_numbers}
 use Rattle.checking.specs.Answers.{verdict_said, Checks, Views}
-use Rattle.checking.specs.declared.Verdict.{Verdict}
+use Rattle.format.specs.declared.layout.Counts.{Counts}
 use Rattle.ways.specs.Graph.{◌∈◌}
 use Rattle.ways.specs.Chain.{Distinct, hops}
 use Rattle.ways.specs.Order.{Before, Rising}
@@ -18,14 +18,13 @@ use Rattle.ways.specs.Sizes.{record_size}
 use Rattle.question.specs.declared.Question.{Question}
 use Rattle.question.specs.Asked.{person_fault, asked_fault, asked_numbers, rings_asked_fault}
 use Rattle.distance.specs.Answers as distance
-use Rattle.distance.specs.declared.HopsAnswer as distance-code
+use Rattle.refusals.specs.declared.Refusal.{Refusal}
 use Rattle.portion.specs.Listing.{listing_for, portion_fault, portion_numbers, Portioned, LaidEndToEnd, Resumed}
 use Rattle.rings.specs.Rings.{rings_for, rings_fault, rings_numbers, RingsPortioned}
 use Rattle.listing.specs.Portions.{Start, fresh, bookmarked, start_fault}
-use Rattle.refusals.specs.Answers.{listed, refused, answer_said}
+use Rattle.refusals.specs.Answers.{listed, refused, answer_said, Told}
 use Rattle.listing.specs.Answers.{PortionOf}
 use Rattle.listing.specs.EndToEnd.{Call, Run, says_ended, all_wrote, all_room, Brings, EndsRight, Laid, ResumedIn}
-use Rattle.refusals.specs.declared.Answer.{Answer}
 use Rattle.held.specs.declared.Held.{Held}
 use Rattle.held.specs.Holding.{start_of, MovedOn}
 use Rattle.listing.specs.Onward.{Quiet}
@@ -43,30 +42,30 @@ pub record Ends {A : Type 0} (refused : ℕ → ℕ → A) (first : Fault) (numb
 
 -- every public operation ends so. That it ends at all is part of each function's own proof
 pub record EveryEnds : Type 0 where
-  pub check : (file : List ℕ) (answer : Verdict) → Checks file answer → Ends verdict.refused (file_fault file) file_numbers (verdict_said answer)
+  pub check : (file : List ℕ) (answer : Result Counts Refusal) → Checks file answer → Ends verdict.refused (file_fault file) file_numbers (verdict_said answer)
   -- "For a refused file, or a person out of range, the part is empty and no number comes with it"
   pub row : (file view : Bor (List ℕ)) (person : ℕ) → Views file person view → (file_fault file.now ≢ sound) ⊎ (person_count file.now ≤ person) → view.now ≡ []
-  pub fewest : (file : List ℕ) (q : Question) (person : ℕ) (answer : distance-code.HopsAnswer) → distance.FewestHops file q person answer
+  pub fewest : (file : List ℕ) (q : Question) (person : ℕ) (answer : Result ℕ Refusal) → distance.FewestHops file q person answer
       → Ends distance.refused (first_of (file_fault file) (person_fault (person_count file) q person)) asked_numbers (distance.hops_said answer)
-  pub portion : (file : List ℕ) (q : Question) {start : Start} {out out' : List ℕ} {answer : Answer} → Portioned file q start out out' answer
+  pub portion : (file : List ℕ) (q : Question) {start : Start} {out out' : List ℕ} {answer : Told} → Portioned file q start out out' answer
       → Ends refused (portion_fault file q start out) portion_numbers (answer_said answer)
-  pub rings : (file : List ℕ) (q : Question) {start : Start} {out out' : List ℕ} {answer : Answer} → RingsPortioned file q start out out' answer
+  pub rings : (file : List ℕ) (q : Question) {start : Start} {out out' : List ℕ} {answer : Told} → RingsPortioned file q start out out' answer
       → Ends refused (rings_fault file q start out) rings_numbers (answer_said answer)
-  pub held : {file : List ℕ} {held held' : Held} {out out' : List ℕ} {answer : Answer} → MovedOn file held held' out out' answer
+  pub held : {file : List ℕ} {held held' : Held} {out out' : List ℕ} {answer : Told} → MovedOn file held held' out out' answer
       → Ends refused (portion_fault file held.question (start_of held) out) portion_numbers (answer_said answer)
-  pub join : (file : List ℕ) (q : Question) {working working' out out' : List ℕ} {answer : Answer} → Joins file q working working' out out' answer
+  pub join : (file : List ℕ) (q : Question) {working working' out out' : List ℕ} {answer : Told} → Joins file q working working' out out' answer
       → Ends refused (join_fault file q working out) join_numbers (answer_said answer)
 
 -- the operations that are lent cells for writing. The file and a bookmark are lent for reading only (`&`): the language lets nobody
 -- write through such a loan, so no promise has to say that they stay
 pub record RefusalLeaves : Type 0 where
-  pub portion : (file : List ℕ) (q : Question) {start : Start} {out out' : List ℕ} {answer : Answer} {number place : ℕ} → Portioned file q start out out' answer
+  pub portion : (file : List ℕ) (q : Question) {start : Start} {out out' : List ℕ} {answer : Told} {number place : ℕ} → Portioned file q start out out' answer
       → answer_said answer ≡ refused number place → out' ≡ out
-  pub rings : (file : List ℕ) (q : Question) {start : Start} {out out' : List ℕ} {answer : Answer} {number place : ℕ} → RingsPortioned file q start out out' answer
+  pub rings : (file : List ℕ) (q : Question) {start : Start} {out out' : List ℕ} {answer : Told} {number place : ℕ} → RingsPortioned file q start out out' answer
       → answer_said answer ≡ refused number place → out' ≡ out
-  pub held : {file : List ℕ} {held held' : Held} {out out' : List ℕ} {answer : Answer} {number place : ℕ} → MovedOn file held held' out out' answer
+  pub held : {file : List ℕ} {held held' : Held} {out out' : List ℕ} {answer : Told} {number place : ℕ} → MovedOn file held held' out out' answer
       → answer_said answer ≡ refused number place → (held' ≡ held) × (out' ≡ out)
-  pub join : (file : List ℕ) (q : Question) {working working' out out' : List ℕ} {answer : Answer} {number place : ℕ} → Joins file q working working' out out' answer
+  pub join : (file : List ℕ) (q : Question) {working working' out out' : List ℕ} {answer : Told} {number place : ℕ} → Joins file q working working' out out' answer
       → answer_said answer ≡ refused number place → (working' ≡ working) × (out' ≡ out)
 
 -- Demand 1
@@ -81,7 +80,7 @@ pub record DemandOne : Type 0 where
   pub leaves : RefusalLeaves
 
 -- the first of these chains are what an operation listed: how many it answers, whether that was all, and which cells they are in
-pub record Lists (chains : List (List ℕ)) (out out' : List ℕ) (answer : Answer) : Type 0 where
+pub record Lists (chains : List (List ℕ)) (out out' : List ℕ) (answer : Told) : Type 0 where
   pub says : answer_said answer ≡ listed (length (first_ones chains out)) (all_fit chains out)
   pub cells : out' ≡ written record_size (first_ones chains out) out
 
@@ -95,7 +94,7 @@ pub record HoldsJust (Is : List ℕ → Type 0) (first : Fault) (chains : List (
   -- so the listing is the only list that is so
   pub no_other : (L : List (List ℕ)) → Rising Before L → ((c : List ℕ) → c ∈ L ↔ Is c) → L ≡ chains
   -- and a portion from a fresh start lists it
-  pub portion : {out out' : List ℕ} {answer : Answer} → record_size ≤ length out → PortionOf first chains fresh out out' answer → Lists chains out out' answer
+  pub portion : {out out' : List ℕ} {answer : Told} → record_size ≤ length out → PortionOf first chains fresh out out' answer → Lists chains out out' answer
 
 -- there is room for a record, and for the half chains
 pub record Fitting (file : List ℕ) (q : Question) (working out : List ℕ) : Type 0 where
@@ -111,11 +110,11 @@ pub record JoinRoute (file : List ℕ) (q : Question) : Type 0 where
   pub all_half_chains : (h : List ℕ) → h ∈ halves_for file q ↔ HalfPath file q h
   pub to_alone : q.to ∷ [] ∈ halves_for file q
   -- "They are written as records to the working cells, shorter first, then in dictionary order; later cells are unchanged."
-  pub halves_written : {working working' out out' : List ℕ} {answer : Answer} → Fitting file q working out → Joins file q working working' out out' answer → working' ≡ written record_size (halves_for file q) working
+  pub halves_written : {working working' out out' : List ℕ} {answer : Told} → Fitting file q working out → Joins file q working working' out out' answer → working' ≡ written record_size (halves_for file q) working
   -- "shorter first, then in dictionary order"
   pub halves_in_order : Rising Sooner (halves_for file q)
   -- and the chains are what is listed
-  pub lists : {working working' out out' : List ℕ} {answer : Answer} → Fitting file q working out → Joins file q working working' out out' answer → Lists (chains_for file q) out out' answer
+  pub lists : {working working' out out' : List ℕ} {answer : Told} → Fitting file q working out → Joins file q working working' out out' answer → Lists (chains_for file q) out out' answer
 
 -- Demand 2, of a file and a question that pass
 pub record DemandTwo (file : List ℕ) (q : Question) : Type 0 where
@@ -153,7 +152,7 @@ pub record DemandThree (file : List ℕ) (q : Question) : Type 0 where
   pub held_resumed : {held held' : Held} {calls : List Call} → held.question ≡ q → held.started ≢ 0 → start_fault (listing_for file q) (bookmarked held.«record») ≡ sound → HeldRun file held calls held'
       → Resumed file q held.«record» calls
   -- and after one that says ended nothing more comes
-  pub held_ended : {held held' held'' : Held} {out out' : List ℕ} {answer : Answer} {count : ℕ} {calls : List Call} → MovedOn file held held' out out' answer
+  pub held_ended : {held held' held'' : Held} {out out' : List ℕ} {answer : Told} {count : ℕ} {calls : List Call} → MovedOn file held held' out out' answer
       → answer_said answer ≡ listed count true → HeldRun file held' calls held'' → (held'' ≡ held') × Quiet calls
 
 -- Demands 2 and 3 of the rings of a person, of a file and a question for rings that pass
@@ -170,4 +169,4 @@ pub record RingsAsSaid (file : List ℕ) (q : Question) : Type 0 where
 
 -- Beside the demands, of every file and question: the number that is answered for a person is the fewest hops by the customer's sentence
 pub record FewestAsSaid : Type 0 where
-  pub fewest : (file : List ℕ) (q : Question) (person d : ℕ) (answer : distance-code.HopsAnswer) → distance.FewestHops file q person answer → distance.hops_said answer ≡ distance.hops d → FewestFrom file q person d
+  pub fewest : (file : List ℕ) (q : Question) (person d : ℕ) (answer : Result ℕ Refusal) → distance.FewestHops file q person answer → distance.hops_said answer ≡ distance.hops d → FewestFrom file q person d

@@ -10,8 +10,7 @@ use Rattle.question.specs.Asked.{person_fault, asked_numbers}
 use Rattle.portion.specs.Listing.{portion_fault, portion_numbers, portion_for, ended_for}
 use Rattle.rings.specs.Rings.{rings_fault, rings_numbers, rings_portion, rings_ended}
 use Rattle.listing.specs.Portions.{Start}
-use Rattle.refusals.specs.Answers.{answer_said}
-use Rattle.refusals.specs.declared.Answer as code
+use Rattle.refusals.specs.Answers.{answer_said, Told}
 use Rattle.ways.specs.Graph.{◌∈◌}
 use Rattle.held.specs.Holding.{start_of, MovedOn}
 use Rattle.join.specs.Lists.{chains_for, join_fault, join_numbers, first_ones, all_fit}
@@ -60,7 +59,7 @@ pub record AtTheDoor : Type 0 where
       (Listed answer (length (portion_for file (held_of cells).question (start_of (held_of cells)) out)) (ended_for file (held_of cells).question (start_of (held_of cells)) out))
   -- it moves the held listing in its cells on to the one in its cells at exit, so calls one after another are calls of one held listing
   pub kin_held_moves : {file cells cells' out out' : List ℕ} {answer : ℕ} → HeldNumber file cells cells' out out' answer → held_whole (length cells) ≡ true
-      → (said : code.Answer) × MovedOn file (held_of cells) (held_of cells') out out' said × (answer ≡ listed_number (answer_said said))
+      → (said : Told) × MovedOn file (held_of cells) (held_of cells') out out' said × (answer ≡ listed_number (answer_said said))
   -- "a held listing stored before counts as 1": it is answered, and left, as today's form of it with undated 1 would be, cell by cell
   pub kin_held_stored : {file cells cells' today out out' other : List ℕ} {answer number : ℕ} → length cells ≡ stored_size → HeldNumber file cells cells' out out' answer
       → HeldNumber file (as_today cells) today out other number

@@ -1,10 +1,9 @@
 -- The eighth number of a question, in what is answered. Definitions only.
 -- "The question gains an eighth number, 1 to admit undated links, 0 to leave them out."
-use Rattle.std.specs.Prelude.{◌≡◌, ◌≢◌, true, List, [], ◌∷◌, ℕ, length}
+use Rattle.std.specs.Prelude.{Result, ◌≡◌, ◌≢◌, true, List, [], ◌∷◌, ℕ, length}
 use Rattle.format.specs.Format.{person_count, day}
 use Rattle.refusals.specs.Faults.{Fault, sound, first_of, lent}
-use Rattle.refusals.specs.Answers.{room_fault}
-use Rattle.refusals.specs.declared.Answer.{Answer}
+use Rattle.refusals.specs.Answers.{room_fault, Told}
 use Rattle.ways.specs.Graph.{◌∈◌}
 use Rattle.ways.specs.ByHops.{by_hops}
 use Rattle.ways.specs.Halves.{halves}
@@ -15,7 +14,7 @@ use Rattle.question.specs.Asked.{asked_fault, rings_asked_fault}
 use Rattle.question.specs.Admission.{admitted, AdmittedLink}
 use Rattle.question.specs.Before.{admitted_before, next_before, asked_before, asked_of_before, AsBefore}
 use Rattle.distance.specs.Answers.{hops_said, unless_refused, FewestHops}
-use Rattle.distance.specs.declared.HopsAnswer.{HopsAnswer}
+use Rattle.refusals.specs.declared.Refusal.{Refusal}
 use Rattle.listing.specs.Portions.{Start, refusal_of, portion_of}
 use Rattle.listing.specs.Answers.{PortionOf}
 use Rattle.portion.specs.Listing.{listing_for, listing_before, Portioned}
@@ -37,13 +36,13 @@ join_fault_before file q working out = first_of (asked_before file q) (room_faul
 
 -- every answer, and every lent cell, is what the refusals and the lists of before give
 pub record AnswersAsBefore (file : List ℕ) (q : Question) : Type 0 where
-  pub fewest : (person : ℕ) (answer : HopsAnswer) → FewestHops file q person answer
+  pub fewest : (person : ℕ) (answer : Result ℕ Refusal) → FewestHops file q person answer
       → hops_said answer ≡ unless_refused (asked_of_before file q person) (ways.fewest (next_before file q) q.to q.hops person)
-  pub portion : {start : Start} {out out' : List ℕ} {answer : Answer} → Portioned file q start out out' answer → PortionOf (asked_before file q) (listing_before file q) start out out' answer
-  pub held : {held held' : Held} {out out' : List ℕ} {answer : Answer} → held.question ≡ q → MovedOn file held held' out out' answer
+  pub portion : {start : Start} {out out' : List ℕ} {answer : Told} → Portioned file q start out out' answer → PortionOf (asked_before file q) (listing_before file q) start out out' answer
+  pub held : {held held' : Held} {out out' : List ℕ} {answer : Told} → held.question ≡ q → MovedOn file held held' out out' answer
       → PortionOf (asked_before file q) (listing_before file q) (start_of held) out out' answer
       × (held' ≡ lent (refusal_of (asked_before file q) (listing_before file q) (start_of held) out) (held_after (portion_of (listing_before file q) (start_of held) out) held) held)
-  pub join : {working working' out out' : List ℕ} {answer : Answer} → Joins file q working working' out out' answer
+  pub join : {working working' out out' : List ℕ} {answer : Told} → Joins file q working working' out out' answer
       → JoinOf (join_fault_before file q working out) (halves_before file q) (chains_before file q) working working' out out' answer
 
 -- each hop has an admitted link with a day

@@ -68,7 +68,7 @@ pub record Rounds (starts targets : List ℕ) (to k h : ℕ) (cells : List ℕ) 
   pub cell : (p : ℕ) → p < persons → get_or cells p 0 ≡ shown h k (far starts targets to k p)
 
 -- all set to unknown at the start, but To
-pub rounds_start : {starts targets : List ℕ} {to k : ℕ} → Readable starts targets to k → Rounds starts targets to k 0 (set (replicate persons (k + 1)) to 0)
+pub rounds_start : {starts targets : List ℕ} {to k : ℕ} → Readable to k → Rounds starts targets to k 0 (set (replicate persons (k + 1)) to 0)
 rounds_start {starts} {targets} {to} {k} r = record {
   size = length-set (replicate persons (k + 1)) to 0 ∙ length-replicate persons (k + 1);
   cell = λ p l. go p l (ℕ_discrete p to);

@@ -4,57 +4,24 @@ use mathlib.Core.Bool.{Bool, true, false, ◌&&◌, cond, false≢true}
 use mathlib.Core.List.{List, [], ◌∷◌}
 use Prim.Native.Nat.{ℕ, ◌+◌, ◌≤◌, ◌<◌}
 use lib.ListN.{length, get_or, set, length-set}
-use lib.Seq.{slice, slice-cons, slice_empty, get_or-set_same, get_or-set_other}
+use lib.Seq.{get_or-set_same, get_or-set_other}
 use lib.Dec.{eqb}
-use native.Mathlib.Numerals.{add-one}
 use native.Mathlib.Decide.{ℕ_discrete, dec_lt}
 use native.Mathlib.Omega.{arith}
 use borrow.Author.Tests.{eqb-true, eq-eqb, ne_eqb}
 use Rattle.compact.specs.Compact.{persons, graph_of}
 use Rattle.distance.specs.Table.{anybody, stepped, Stepped}
-use Rattle.distance.specs.Inside.{Looks, Rounding}
-
--- Looking through a row: what is still to be looked at decides.
-pub record Passing (starts targets cells : List ℕ) (person h end at : ℕ) : Type 0 where
-  pub to : at ≤ end
-  pub rest : anybody cells h (graph_of starts targets person) ≡ anybody cells h (slice at end targets)
-
-pub row_ends : {starts targets cells : List ℕ} {person end : ℕ} → Looks starts targets cells person → end ≡ get_or starts (person + 1) 0 → end ≤ length targets
-row_ends {person = person} l e = omega (arith, l.compact.ends person l.inside)
-
-module _ {starts targets cells : List ℕ} {person : ℕ} (l : Looks starts targets cells person) {h end : ℕ} (e : end ≡ get_or starts (person + 1) 0) where
-  pub passing_starts : {at : ℕ} → at ≡ get_or starts person 0 → Passing starts targets cells person h end at
-  passing_starts {at} s = record { to = omega (arith, l.compact.rise person l.inside); rest = rw (s, e) }
-
-  module _ {at : ℕ} (i : Passing starts targets cells person h end at) where
-    next_cell : at < end → slice at end targets ≡ get_or targets at 0 ∷ slice (at + 1) end targets
-    next_cell t = slice-cons at end targets 0 t (row_ends l e) ∙ rw (add-one at)
-
-    pub passing_person : at < end → get_or targets at 0 < persons
-    passing_person t = l.compact.people at (omega (arith, row_ends l e))
-
-    pub passing_finds : at < end → get_or cells (get_or targets at 0) 0 ≡ h → true ≡ anybody cells h (graph_of starts targets person)
-    unfolding anybody
-    passing_finds t f = sym (i.rest ∙ rw (next_cell t, eq-eqb _ h f))
-
-    pub passing_on : at < end → (get_or cells (get_or targets at 0) 0 ≡ h → ⊥) → Passing starts targets cells person h end (at + 1)
-    unfolding anybody
-    passing_on t f = record { to = omega arith; rest = i.rest ∙ rw (next_cell t, ne_eqb _ h f) }
-
-    pub passing_ends : end ≤ at → false ≡ anybody cells h (graph_of starts targets person)
-    unfolding anybody
-    passing_ends t = let same : at ≡ end = omega (arith, i.to) in sym (i.rest ∙ rw (same, slice_empty end targets))
+use Rattle.distance.specs.Inside.{Rounding}
 
 -- A round so far: the persons before this one are settled, the others are as they were.
 pub record Stepping (starts targets before : List ℕ) (k h person : ℕ) (added : Bool) (cells : List ℕ) : Type 0 where
-  pub to : person ≤ persons
   pub size : length cells ≡ persons
   pub done : (p : ℕ) → p < person → get_or cells p 0 ≡ stepped starts targets before k h p
   pub still : (p : ℕ) → person ≤ p → get_or cells p 0 ≡ get_or before p 0
   pub quiet : added ≡ false → cells ≡ before
 
-pub stepping_starts : {starts targets before : List ℕ} {k h : ℕ} → Rounding starts targets k h before → Stepping starts targets before k h 0 false before
-stepping_starts r = record { to = omega arith; size = r.size; done = λ p l. absurd (omega arith); still = λ p l. refl; quiet = λ e. refl }
+pub stepping_starts : {starts targets before : List ℕ} {k h : ℕ} → length before ≡ persons → Stepping starts targets before k h 0 false before
+stepping_starts long = record { size = long; done = λ p l. absurd (omega arith); still = λ p l. refl; quiet = λ e. refl }
 
 -- two tables that show h for the same persons
 same_anybody : (a b : List ℕ) (h : ℕ) → ((v : ℕ) → eqb (get_or a v 0) h ≡ eqb (get_or b v 0) h) → (row : List ℕ) → anybody a h row ≡ anybody b h row
@@ -62,10 +29,7 @@ unfolding anybody
 same_anybody a b h s [] = refl
 same_anybody a b h s (v ∷ row) = rw (s v, same_anybody a b h s row)
 
-module _ {starts targets before : List ℕ} {k h : ℕ} (r : Rounding starts targets k h before) {person : ℕ} {added : Bool} {cells : List ℕ} (s : Stepping starts targets before k h person added cells) where
-  pub stepping_looks : person < persons → Looks starts targets cells person
-  stepping_looks l = record { compact = r.compact; size = s.size; inside = l }
-
+module _ {starts targets before : List ℕ} {k h : ℕ} (r : Rounding k h) {person : ℕ} {added : Bool} {cells : List ℕ} (s : Stepping starts targets before k h person added cells) where
   -- what the round has set holds neither h nor, before, held it
   same_test : (v : ℕ) → eqb (get_or cells v 0) h ≡ eqb (get_or before v 0) h
   same_test v = go (dec_lt v person)
@@ -85,7 +49,6 @@ module _ {starts targets before : List ℕ} {k h : ℕ} (r : Rounding starts tar
   settles : {cells' : List ℕ} {added' : Bool} → person < persons → length cells' ≡ length cells → ((p : ℕ) → (p ≡ person → ⊥) → get_or cells' p 0 ≡ get_or cells p 0) → get_or cells' person 0 ≡ stepped starts targets before k h person → (added' ≡ false → cells' ≡ before)
       → Stepping starts targets before k h (person + 1) added' cells'
   settles {cells'} l long others own calm = record {
-    to = omega arith;
     size = long ∙ s.size;
     done = λ p i. done p i (ℕ_discrete p person);
     still = λ p i. others p (λ e. omega arith) ∙ s.still p (omega arith);

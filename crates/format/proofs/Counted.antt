@@ -17,9 +17,6 @@ use Rattle.format.specs.declared.layout.Offsets.{Offsets}
 pub met : {a b r : Bool} → a ≡ true → r ≡ b → r ≡ (a && b)
 met h e = rw h e
 
-pub missed : {a r : Bool} (b : Bool) → a ≡ false → r ≡ a → r ≡ (a && b)
-missed b h e = rw h (e ∙ h)
-
 -- both halves of a rule that holds
 pub halves : (a b : Bool) → (a && b) ≡ true → (a ≡ true) × (b ≡ true)
 halves true b h = (refl, h)

@@ -1,3 +1,2 @@
--- Laws of this room: what the rules of the header say, and where a kind's class lies.
-pub mod Classes
+-- Laws of this room: what the rules of the header say.
 pub mod Counted

@@ -1,5 +1,5 @@
 -- Kinds and their class, decided by ranges of the kind number. Definitions only.
-use Rattle.std.specs.Prelude.{Bool, true, false, ◌||◌, cond, ℕ, eqb}
+use Rattle.std.specs.Prelude.{Bool, true, false, ◌||◌, cond, ℕ, eqb, Option, Some, None}
 use Rattle.format.specs.Numbers.{within}
 use Rattle.format.specs.declared.kinds.Class as code
 
@@ -15,10 +15,17 @@ class_of kind =
     cond (eqb kind 1 || eqb kind 2 || eqb kind 4) (class 1)
     (cond (eqb kind 3) (class 2) (cond (eqb kind 5) (class 4) (cond (within 16 31 kind) (class 8) unknown)))
 
--- what the code's enum says, in these words
-abbrev pub class_said : code.Class → Class
-class_said (code.TheVariants.Of c) = class c
-class_said code.TheVariants.Unknown = unknown
+-- the number of each of the code's classes
+abbrev pub class_number : code.Class → ℕ
+class_number code.TheVariants.Family = 1
+class_number code.TheVariants.Spouse = 2
+class_number code.TheVariants.SamePerson = 4
+class_number code.TheVariants.Papers = 8
+
+-- what the code says, in these words
+abbrev pub class_said : Option code.Class → Class
+class_said (Some c) = class (class_number c)
+class_said None = unknown
 
 abbrev pub known : Class → Bool
 known (class c) = true

@@ -13,43 +13,15 @@ use ways::{FEEDS, LINKS, PERSONS};
 pub fn marked(file: &[u8]) -> bool
     ensures { result ≡ marked file.now }
 {
-    if file.len() < HEADER {
-        return false;
-    }
-    file[0] == 0x4B && file[1] == 0x4C && file[2] == 0x46 && file[3] == 0x31
+    HEADER <= file.len() && file.starts_with(b"KLF1")
 }
 
-// A number of the header, by its offset.
-fn stated(file: &[u8], at: usize) -> usize
-    requires { at + 4 ≤ length file.now }
-    ensures { result ≡ number32 file.now at }
-{
-    numbers::number32(file, at) as usize
-}
-
-// The counts, whatever they are.
-fn stated_counts(file: &[u8]) -> Counts
-    requires { header_size ≤ length file.now }
-    ensures { result ≡ counts_in file.now }
-{
-    Counts {
-        persons: stated(file, 4),
-        links: stated(file, 8),
-        feeds: stated(file, 12),
-    }
-}
-
-// The offsets and the length, whatever they are.
-fn stated_offsets(file: &[u8]) -> Offsets
-    requires { header_size ≤ length file.now }
-    ensures { result ≡ offsets_in file.now }
-{
-    Offsets {
-        feeds: stated(file, 16),
-        rows: stated(file, 20),
-        links: stated(file, 24),
-        length: stated(file, 28),
-    }
+// Bytes that reach as far as a header, and so have its numbers. That the counts fit is asked apart: a second type for it would be made in one
+// place alone.
+#[derive(Clone, Copy)]
+pub struct Header<'a> {
+    pub bytes: &'a [u8],
+    pub ghost whole: { header_size ≤ length bytes.now },
 }
 
 // Whether n is 1 to its limit, and m and f are at most theirs.
@@ -57,18 +29,7 @@ fn stated_offsets(file: &[u8]) -> Offsets
 fn fit(counts: Counts) -> bool
     ensures { result ≡ fit counts }
 {
-    1 <= counts.persons
-        && counts.persons <= PERSONS
-        && counts.links <= LINKS
-        && counts.feeds <= FEEDS
-}
-
-// Whether the counts are within their limits.
-pub fn counts_fit(file: &[u8]) -> bool
-    requires { header_size ≤ length file.now }
-    ensures { result ≡ counts_fit file.now }
-{
-    fit(stated_counts(file))
+    (1..=PERSONS).contains(&counts.persons) && counts.links <= LINKS && counts.feeds <= FEEDS
 }
 
 // Whether the stated offsets and length are the derived ones, and the length is that of the slice.
@@ -76,32 +37,68 @@ pub fn counts_fit(file: &[u8]) -> bool
 fn agree(stated: Offsets, derived: Offsets, length: usize) -> bool
     ensures { result ≡ agree stated derived length }
 {
-    stated.feeds == derived.feeds
-        && stated.rows == derived.rows
-        && stated.links == derived.links
-        && stated.length == derived.length
-        && length == derived.length
+    stated == derived && length == derived.length
 }
 
-// Whether the offsets and the length are as derived from the counts, and the length is the slice's.
-pub fn laid_out(file: &[u8]) -> bool
-    requires mark { marked file.now ≡ true }
-    requires counts { counts_fit file.now ≡ true }
-    ensures { result ≡ laid_out file.now }
-{
-    agree(
-        stated_offsets(file),
-        layout::derived(stated_counts(file)),
-        file.len(),
-    )
+impl Header<'_> {
+    // A number, by its offset.
+    fn stated(self, at: usize) -> usize
+        requires { at + 4 ≤ header_size }
+        ensures { result ≡ number32 self.entry.bytes.now at }
+    {
+        numbers::number32(self.bytes, at) as usize
+    }
+
+    // The counts, whatever they are.
+    pub fn counts(self) -> Counts
+        ensures { result ≡ counts_in self.entry.bytes.now }
+    {
+        Counts {
+            persons: self.stated(4),
+            links: self.stated(8),
+            feeds: self.stated(12),
+        }
+    }
+
+    // The offsets and the length, whatever they are.
+    fn offsets(self) -> Offsets
+        ensures { result ≡ offsets_in self.entry.bytes.now }
+    {
+        Offsets {
+            feeds: self.stated(16),
+            rows: self.stated(20),
+            links: self.stated(24),
+            length: self.stated(28),
+        }
+    }
+
+    // Whether the counts are within their limits.
+    pub fn counts_fit(self) -> bool
+        ensures { result ≡ counts_fit self.entry.bytes.now }
+    {
+        fit(self.counts())
+    }
+
+    // Whether the offsets and the length are as derived from the counts, and the length is the slice's.
+    pub fn laid_out(self) -> bool
+        requires { counts_fit self.bytes.now ≡ true }
+        ensures { result ≡ laid_out self.entry.bytes.now }
+    {
+        agree(
+            self.offsets(),
+            layout::derived(self.counts()),
+            self.bytes.len(),
+        )
+    }
 }
 
 // The counts of a file that passed 1, 2 and 3.
+#[tactic(auto, using(crate::proofs::Counted::marked_long, crate::proofs::Counted::file_laid))]
 pub fn counts(file: &[u8]) -> Counts
     requires mark { marked file.now ≡ true }
     requires counts { counts_fit file.now ≡ true }
     requires layout { laid_out file.now ≡ true }
     ensures { Laid file.now result }
 {
-    stated_counts(file)
+    Header { bytes: file }.counts()
 }

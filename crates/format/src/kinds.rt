@@ -2,24 +2,30 @@
 ghost use Rattle.std.specs.Prelude.{◌≡◌};
 ghost use Rattle.format.specs.Kinds.{class_said, class_of, known};
 
-// A class, or unknown.
-#[derive(Clone, Copy)]
+// The classes, each with its number in a sum of classes.
+#[derive(Clone, Copy, Debug, PartialEq, Eq)]
 pub enum Class {
-    Of(u8),
-    Unknown,
+    // Parent of, child of, sibling of.
+    Family = 1,
+    // Spouse of.
+    Spouse = 2,
+    // Same person.
+    SamePerson = 4,
+    // Named together in papers.
+    Papers = 8,
 }
 
-// Decided by ranges of the kind number: a class, or unknown.
+// Decided by ranges of the kind number: a class, or none where the kind is unknown.
 #[tactic(auto, unfolding(crate::specs::Kinds::class_of))]
-pub fn class_of(kind: u8) -> Class
+pub fn class_of(kind: u8) -> Option<Class>
     ensures { class_said result ≡ class_of kind }
 {
     match kind {
-        1 | 2 | 4 => Class::Of(1),
-        3 => Class::Of(2),
-        5 => Class::Of(4),
-        16..=31 => Class::Of(8),
-        _ => Class::Unknown,
+        1 | 2 | 4 => Some(Class::Family),
+        3 => Some(Class::Spouse),
+        5 => Some(Class::SamePerson),
+        16..=31 => Some(Class::Papers),
+        _ => None,
     }
 }
 
@@ -27,9 +33,5 @@ pub fn class_of(kind: u8) -> Class
 pub fn known(kind: u8) -> bool
     ensures { result ≡ known (class_of kind) }
 {
-    if let Class::Of(_) = class_of(kind) {
-        true
-    } else {
-        false
-    }
+    class_of(kind).is_some()
 }

@@ -13,7 +13,7 @@ const ENTRY: usize = 4;
 const LINK: usize = 12;
 
 // The header's counts: n, m and f.
-#[derive(Clone, Copy)]
+#[derive(Clone, Copy, Debug, PartialEq, Eq)]
 pub struct Counts {
     pub persons: usize,
     pub links: usize,
@@ -21,7 +21,7 @@ pub struct Counts {
 }
 
 // The offsets of the three tables, and the file's length.
-#[derive(Clone, Copy)]
+#[derive(Clone, Copy, Debug, PartialEq, Eq)]
 pub struct Offsets {
     pub feeds: usize,
     pub rows: usize,
@@ -54,6 +54,7 @@ pub fn link_offset(counts: Counts, link: usize) -> usize
 }
 
 // The offsets and the length that follow from the counts.
+#[tactic(auto, using(crate::proofs::Counted::fit_facts))]
 pub fn derived(counts: Counts) -> Offsets
     requires { fit counts ≡ true }
     ensures { result ≡ offsets_for counts }

@@ -5,6 +5,7 @@
 #![tactic(auto)]
 
 pub mod feeds;
+pub mod file;
 pub mod header;
 pub mod kinds;
 pub mod layout;

@@ -1,9 +1,8 @@
 // The link table.
 ghost use Rattle.std.specs.Prelude.{◌≡◌, ◌<◌};
 ghost use Rattle.format.specs.Format.{link_in};
-ghost use Rattle.format.specs.Laid.{Laid};
 
-use crate::layout::Counts;
+use crate::file::LinkFile;
 use crate::{layout, numbers};
 
 // The last day that a link or a question can name: 31 December 9999.
@@ -19,17 +18,20 @@ pub struct Link {
     pub zero: u8,
 }
 
-// A link of a file, by its number through the whole file.
-pub fn link_in(file: &[u8], counts: Counts, number: usize) -> Link
-    requires { (Laid file.now counts) × (number < counts.links) }
-    ensures { result ≡ link_in file.now number }
-{
-    let at = layout::link_offset(counts, number);
-    Link {
-        target: numbers::number32(file, at),
-        day: numbers::number32(file, at + 4),
-        feed: numbers::number16(file, at + 8),
-        kind: file[at + 10],
-        zero: file[at + 11],
+impl LinkFile<'_> {
+    // A link, by its number through the whole file.
+    pub fn link(self, number: usize) -> Link
+        requires { number < self.counts.links }
+        ensures { result ≡ link_in self.entry.bytes.now number }
+    {
+        let at = layout::link_offset(self.counts, number);
+        let bytes = self.bytes;
+        Link {
+            target: numbers::number32(bytes, at),
+            day: numbers::number32(bytes, at + 4),
+            feed: numbers::number16(bytes, at + 8),
+            kind: bytes[at + 10],
+            zero: bytes[at + 11],
+        }
     }
 }

@@ -22,13 +22,16 @@ use Rattle.ways.proofs.Members.{flat_map_append}
 use Rattle.ways.proofs.Records.{cells_of_append, length-cells_of, length-written}
 use Rattle.ways.proofs.Halves.{persons_below_lem, halves_exact, half_fits}
 use Rattle.ways.proofs.Onward.{onward_from, all_half_chains-onward}
-use Rattle.compact.specs.Compact.{persons, graph_of}
+use Rattle.compact.specs.Compact.{persons}
+use Rattle.compact.specs.declared.Graph as lent
 use Rattle.compact.specs.Marks.{Marked}
 use Rattle.compact.proofs.Marking.{marked_more}
-use Rattle.traces.specs.Traces.{rest_of, rests_of, place_of, indexed_at, rights_of, Indexed}
+use Rattle.traces.specs.Indexed.{place_of, Indexed}
+use Rattle.traces.specs.Traces.{links_of, rest_of, rests_of, indexed_at, rights_of}
 use Rattle.half_chains.specs.Shelf.{Seeking, halves_from, halves_below, halves_of, shelf_of, halves_before}
 use Rattle.half_chains.specs.declared.sought.Sought.{Sought}
 use Rattle.traces.proofs.Turns.{further}
+use Rattle.traces.proofs.Steps.{get_or_in}
 use Rattle.half_chains.proofs.Shelving.{below_next, shelf_next}
 use Rattle.traces.proofs.Meeting.{flat_map_same, following-onward, starting_at}
 
@@ -118,102 +121,97 @@ cells_people (h ∷ hs) f x m =
     let a = f h (Memᴰ.head refl) in
     ⊎_elim (record_people h a.0 a.1 x) (cells_people hs (λ d i. f d (Memᴰ.tail i)) x) (Memᴰ.append_cases (record_of record_size h) m)
 
-get_or_in : (l : List ℕ) (c : ℕ) → c < length l → get_or l c 0 ∈ l
-get_or_in [] c h = absurd (omega arith)
-get_or_in (x ∷ l) zero h = Memᴰ.head refl
-get_or_in (x ∷ l) (suc c) h = Memᴰ.tail (get_or_in l c (omega arith))
-
 -- ---- the half chains that are sought
 
-module _ {rows targets : List ℕ} {sought : Sought} (k : Seeking rows targets sought) where
-  half_people : (h : List ℕ) → Last sought.to h → Linked (graph_of rows targets) h → (x : ℕ) → x ∈ h → x < persons
+module _ {graph : lent.Graph} {sought : Sought} (k : Seeking graph sought) where
+  half_people : (h : List ℕ) → Last sought.to h → Linked (links_of graph) h → (x : ℕ) → x ∈ h → x < persons
   half_people [] last link x m = absurd last
   half_people (p ∷ []) last link x m = ⊎_elim (λ e. omega (arith, e, last, k.target, k.known)) (λ i. absurd (Memᴰ.not-nil i)) (Memᴰ.cases_cons m)
   half_people (p ∷ q ∷ h) last link x m = ⊎_elim (λ e. omega (arith, e, k.low p q link.0, k.known)) (half_people (q ∷ h) last link.1 x) (Memᴰ.cases_cons m)
 
   abbrev all : List (List ℕ)
-  all = halves (graph_of rows targets) sought.persons sought.from sought.to sought.hops
+  all = halves (links_of graph) sought.persons sought.from sought.to sought.hops
 
   pub all_fit_lem : (h : List ℕ) → h ∈ all → Fits record_size h
-  all_fit_lem h m = half_fits (graph_of rows targets) sought.persons sought.from sought.to k.differ k.low sought.hops record_size (omega (arith, k.few)) h m
+  all_fit_lem h m = half_fits (links_of graph) sought.persons sought.from sought.to k.differ k.low sought.hops record_size (omega (arith, k.few)) h m
 
   all_people : (h : List ℕ) → h ∈ all → Fits record_size h × ((x : ℕ) → x ∈ h → x < persons)
-  all_people h m = let r = ((halves_exact (graph_of rows targets) sought.persons sought.from sought.to k.differ k.low sought.hops h).0 m).0 in (all_fit_lem h m, half_people h r.last r.linked)
+  all_people h m = let r = ((halves_exact (links_of graph) sought.persons sought.from sought.to k.differ k.low sought.hops h).0 m).0 in (all_fit_lem h m, half_people h r.last r.linked)
 
   -- those of j hops that start at p, without p
   abbrev rest_from : ℕ → ℕ → List (List ℕ)
-  rest_from j p = cond (eqb p sought.from) [] (onward (graph_of rows targets) (λ q. eqb q sought.to) j (p ∷ sought.from ∷ []) p)
+  rest_from j p = cond (eqb p sought.from) [] (onward (links_of graph) (λ q. eqb q sought.to) j (p ∷ sought.from ∷ []) p)
 
   rest-hops : (j p : ℕ) (w : List ℕ) → w ∈ rest_from j p → length w ≡ j
   rest-hops j p w m = go (eqb p sought.from) m
     where
-      go : (b : Bool) → w ∈ cond b [] (onward (graph_of rows targets) (λ q. eqb q sought.to) j (p ∷ sought.from ∷ []) p) → length w ≡ j
+      go : (b : Bool) → w ∈ cond b [] (onward (links_of graph) (λ q. eqb q sought.to) j (p ∷ sought.from ∷ []) p) → length w ≡ j
       go true i = absurd (Memᴰ.not-nil i)
-      go false i = (onward_from (graph_of rows targets) (λ q. eqb q sought.to) j (p ∷ sought.from ∷ []) p i).exactly
+      go false i = (onward_from (links_of graph) (λ q. eqb q sought.to) j (p ∷ sought.from ∷ []) p i).exactly
 
-  row-halves : (j : ℕ) → flat_map (λ p. map (◌∷◌ p) (rest_from j p)) (persons_below sought.persons) ≡ all_half_chains (graph_of rows targets) sought.persons sought.from sought.to j
+  row-halves : (j : ℕ) → flat_map (λ p. map (◌∷◌ p) (rest_from j p)) (persons_below sought.persons) ≡ all_half_chains (links_of graph) sought.persons sought.from sought.to j
   row-halves j =
       flat_map_same _ _ (persons_below sought.persons) (λ p m. go p (eqb p sought.from))
-      ∙ sym (all_half_chains-onward (graph_of rows targets) k.graph.rising sought.persons k.low sought.from sought.to k.differ k.target j)
+      ∙ sym (all_half_chains-onward (links_of graph) graph.compact.rising sought.persons k.low sought.from sought.to k.differ k.target j)
     where
-      go : (p : ℕ) (b : Bool) → map (◌∷◌ p) (cond b [] (onward (graph_of rows targets) (λ q. eqb q sought.to) j (p ∷ sought.from ∷ []) p)) ≡ cond b [] (map (◌∷◌ p) (onward (graph_of rows targets) (λ q. eqb q sought.to) j (p ∷ sought.from ∷ []) p))
+      go : (p : ℕ) (b : Bool) → map (◌∷◌ p) (cond b [] (onward (links_of graph) (λ q. eqb q sought.to) j (p ∷ sought.from ∷ []) p)) ≡ cond b [] (map (◌∷◌ p) (onward (links_of graph) (λ q. eqb q sought.to) j (p ∷ sought.from ∷ []) p))
       go p true = refl
       go p false = refl
 
-  starting_half : (j p : ℕ) → starting_at (all_half_chains (graph_of rows targets) sought.persons sought.from sought.to j) p ≡ cond (ltb p sought.persons) (rest_from j p) []
+  starting_half : (j p : ℕ) → starting_at (all_half_chains (links_of graph) sought.persons sought.from sought.to j) p ≡ cond (ltb p sought.persons) (rest_from j p) []
   starting_half j p = ap (λ h. starting_at h p) (sym (row-halves j)) ∙ starting_row (rest_from j) sought.persons p
 
   -- ---- From is marked
 
   module _ (marks : List Bool) (marked : Marked marks (sought.from ∷ [])) where
-    from_half : (j p : ℕ) → p < persons → halves_from (graph_of rows targets) sought.to marks j p ≡ map (◌∷◌ p) (rest_from j p)
+    from_half : (j p : ℕ) → p < persons → halves_from (links_of graph) sought.to marks j p ≡ map (◌∷◌ p) (rest_from j p)
     unfolding among
-    from_half j p l = rw (marked.each p, following-onward k.graph sought.to j (set marks p true) (p ∷ sought.from ∷ []) p (marked_more p l marked) l) (go (eqb p sought.from))
+    from_half j p l = rw (marked.each p, following-onward graph sought.to j (set marks p true) (p ∷ sought.from ∷ []) p (marked_more p l marked) l) (go (eqb p sought.from))
       where
-        go : (b : Bool) → cond (cond b true false) [] (map (◌∷◌ p) (onward (graph_of rows targets) (λ q. eqb q sought.to) j (p ∷ sought.from ∷ []) p)) ≡ map (◌∷◌ p) (cond b [] (onward (graph_of rows targets) (λ q. eqb q sought.to) j (p ∷ sought.from ∷ []) p))
+        go : (b : Bool) → cond (cond b true false) [] (map (◌∷◌ p) (onward (links_of graph) (λ q. eqb q sought.to) j (p ∷ sought.from ∷ []) p)) ≡ map (◌∷◌ p) (cond b [] (onward (links_of graph) (λ q. eqb q sought.to) j (p ∷ sought.from ∷ []) p))
         go true = refl
         go false = refl
 
-    of_halves : (j : ℕ) → halves_of (graph_of rows targets) sought.persons sought.to marks j ≡ all_half_chains (graph_of rows targets) sought.persons sought.from sought.to j
+    of_halves : (j : ℕ) → halves_of (links_of graph) sought.persons sought.to marks j ≡ all_half_chains (links_of graph) sought.persons sought.from sought.to j
     unfolding halves_of all_half_chains onward
     of_halves zero = from_half 0 sought.to (omega (arith, k.target, k.known)) ∙ rw (ne_eqb sought.to sought.from (λ e. k.differ (sym e)), eq-eqb sought.to sought.to refl)
     of_halves (suc j) = flat_map_same _ _ (persons_below sought.persons) (λ p m. from_half (suc j) p (omega (arith, persons_below_lem sought.persons m, k.known))) ∙ row-halves (suc j)
 
     -- all that is handed over
-    pub all_halves : shelf_of (graph_of rows targets) sought.persons sought.to marks (sought.hops / 2) ≡ all
+    pub all_halves : shelf_of (links_of graph) sought.persons sought.to marks (sought.hops / 2) ≡ all
     all_halves = ap (λ f. shorter_first f (sought.hops / 2)) (fun_ext of_halves)
 
     -- the half chains are written; the index says how many stand before each place, and nothing of whoever is no person of the file
     module _ (working index : List ℕ) (room : length all * record_size ≤ length working) (wide : most_hops / 2 * suc persons ≤ length index)
-        (notes : (j p : ℕ) → j < sought.hops / 2 → p ≤ sought.persons → get_or index (place_of (suc j) p) 0 ≡ length (halves_before (graph_of rows targets) sought.persons sought.to marks j p))
+        (notes : (j p : ℕ) → j < sought.hops / 2 → p ≤ sought.persons → get_or index (place_of (suc j) p) 0 ≡ length (halves_before (links_of graph) sought.persons sought.to marks j p))
         (empty : (j p : ℕ) → sought.persons < p → p ≤ persons → get_or index (place_of (suc j) p) 0 ≡ 0) where
-      before-next : (j p : ℕ) → p < persons → halves_before (graph_of rows targets) sought.persons sought.to marks j (suc p) ≡ halves_before (graph_of rows targets) sought.persons sought.to marks j p ++ map (◌∷◌ p) (rest_from (suc j) p)
+      before-next : (j p : ℕ) → p < persons → halves_before (links_of graph) sought.persons sought.to marks j (suc p) ≡ halves_before (links_of graph) sought.persons sought.to marks j p ++ map (◌∷◌ p) (rest_from (suc j) p)
       before-next j p l =
-          ap (λ (x : List (List ℕ)). shelf_of (graph_of rows targets) sought.persons sought.to marks j ++ x) (below_next (graph_of rows targets) sought.to marks (suc j) p ∙ ap (λ (x : List (List ℕ)). halves_below (graph_of rows targets) sought.to marks (suc j) p ++ x) (from_half (suc j) p l))
-          ∙ sym (append_assoc (shelf_of (graph_of rows targets) sought.persons sought.to marks j) (halves_below (graph_of rows targets) sought.to marks (suc j) p) (map (◌∷◌ p) (rest_from (suc j) p)))
+          ap (λ (x : List (List ℕ)). shelf_of (links_of graph) sought.persons sought.to marks j ++ x) (below_next (links_of graph) sought.to marks (suc j) p ∙ ap (λ (x : List (List ℕ)). halves_below (links_of graph) sought.to marks (suc j) p ++ x) (from_half (suc j) p l))
+          ∙ sym (append_assoc (shelf_of (links_of graph) sought.persons sought.to marks j) (halves_below (links_of graph) sought.to marks (suc j) p) (map (◌∷◌ p) (rest_from (suc j) p)))
 
       -- all of them, in front of a place, at it and behind it
-      parted : (j p : ℕ) → j < sought.hops / 2 → p < sought.persons → (rest : List (List ℕ)) × (all ≡ halves_before (graph_of rows targets) sought.persons sought.to marks j p ++ (map (◌∷◌ p) (rest_from (suc j) p) ++ rest))
+      parted : (j p : ℕ) → j < sought.hops / 2 → p < sought.persons → (rest : List (List ℕ)) × (all ≡ halves_before (links_of graph) sought.persons sought.to marks j p ++ (map (◌∷◌ p) (rest_from (suc j) p) ++ rest))
       unfolding halves_of
       parted j p h l =
-          let rows_on = further (shelf_of (graph_of rows targets) sought.persons sought.to marks) (λ i. halves_of (graph_of rows targets) sought.persons sought.to marks (suc i)) (shelf_next (graph_of rows targets) sought.persons sought.to marks) (suc j) (sought.hops / 2) (omega arith) in
-          let persons-on = further (halves_below (graph_of rows targets) sought.to marks (suc j)) (halves_from (graph_of rows targets) sought.to marks (suc j)) (below_next (graph_of rows targets) sought.to marks (suc j)) (suc p) sought.persons (omega arith) in (
+          let rows_on = further (shelf_of (links_of graph) sought.persons sought.to marks) (λ i. halves_of (links_of graph) sought.persons sought.to marks (suc i)) (shelf_next (links_of graph) sought.persons sought.to marks) (suc j) (sought.hops / 2) (omega arith) in
+          let persons-on = further (halves_below (links_of graph) sought.to marks (suc j)) (halves_from (links_of graph) sought.to marks (suc j)) (below_next (links_of graph) sought.to marks (suc j)) (suc p) sought.persons (omega arith) in (
             persons-on.0 ++ rows_on.0,
             sym all_halves ∙ rows_on.1
-                ∙ ap (λ (x : List (List ℕ)). x ++ rows_on.0) (shelf_next (graph_of rows targets) sought.persons sought.to marks j ∙ ap (λ (x : List (List ℕ)). shelf_of (graph_of rows targets) sought.persons sought.to marks j ++ x) persons-on.1 ∙ sym (append_assoc (shelf_of (graph_of rows targets) sought.persons sought.to marks j) (halves_below (graph_of rows targets) sought.to marks (suc j) (suc p)) persons-on.0) ∙ ap (λ (x : List (List ℕ)). x ++ persons-on.0) (before-next j p (omega (arith, k.known))))
-                ∙ append_assoc (halves_before (graph_of rows targets) sought.persons sought.to marks j p ++ map (◌∷◌ p) (rest_from (suc j) p)) persons-on.0 rows_on.0
-                ∙ append_assoc (halves_before (graph_of rows targets) sought.persons sought.to marks j p) (map (◌∷◌ p) (rest_from (suc j) p)) (persons-on.0 ++ rows_on.0),
+                ∙ ap (λ (x : List (List ℕ)). x ++ rows_on.0) (shelf_next (links_of graph) sought.persons sought.to marks j ∙ ap (λ (x : List (List ℕ)). shelf_of (links_of graph) sought.persons sought.to marks j ++ x) persons-on.1 ∙ sym (append_assoc (shelf_of (links_of graph) sought.persons sought.to marks j) (halves_below (links_of graph) sought.to marks (suc j) (suc p)) persons-on.0) ∙ ap (λ (x : List (List ℕ)). x ++ persons-on.0) (before-next j p (omega (arith, k.known))))
+                ∙ append_assoc (halves_before (links_of graph) sought.persons sought.to marks j p ++ map (◌∷◌ p) (rest_from (suc j) p)) persons-on.0 rows_on.0
+                ∙ append_assoc (halves_before (links_of graph) sought.persons sought.to marks j p) (map (◌∷◌ p) (rest_from (suc j) p)) (persons-on.0 ++ rows_on.0),
           )
 
       next_place : (j p : ℕ) → place_of (suc j) p + 1 ≡ place_of (suc j) (suc p)
       next_place j p = omega arith
 
-      next_note : (j p : ℕ) → j < sought.hops / 2 → p < sought.persons → get_or index (place_of (suc j) p + 1) 0 ≡ length (halves_before (graph_of rows targets) sought.persons sought.to marks j p) + length (map (◌∷◌ p) (rest_from (suc j) p))
+      next_note : (j p : ℕ) → j < sought.hops / 2 → p < sought.persons → get_or index (place_of (suc j) p + 1) 0 ≡ length (halves_before (links_of graph) sought.persons sought.to marks j p) + length (map (◌∷◌ p) (rest_from (suc j) p))
       next_note j p h l =
           ap (λ (c : ℕ). get_or index c 0) (next_place j p)
           ∙ notes j (suc p) h (omega arith)
           ∙ ap length (before-next j p (omega (arith, k.known)))
-          ∙ length-append (halves_before (graph_of rows targets) sought.persons sought.to marks j p) (map (◌∷◌ p) (rest_from (suc j) p))
+          ∙ length-append (halves_before (links_of graph) sought.persons sought.to marks j p) (map (◌∷◌ p) (rest_from (suc j) p))
 
       next_empty : (j p : ℕ) → sought.persons ≤ p → p < persons → get_or index (place_of (suc j) p + 1) 0 ≡ 0
       next_empty j p h l = ap (λ (c : ℕ). get_or index c 0) (next_place j p) ∙ empty j (suc p) (omega arith) (omega arith)
@@ -223,10 +221,10 @@ module _ {rows targets : List ℕ} {sought : Sought} (k : Seeking rows targets s
       same (w ∷ ws) = ap (◌∷◌ w) (same ws)
 
       -- those of one hop or more that start at a person of the file, and of whoever is none
-      rights_file : (j p : ℕ) → j < sought.hops / 2 → p < sought.persons → indexed_at (written record_size all working) index (suc j) p ≡ starting_at (all_half_chains (graph_of rows targets) sought.persons sought.from sought.to (suc j)) p
+      rights_file : (j p : ℕ) → j < sought.hops / 2 → p < sought.persons → indexed_at (written record_size all working) index (suc j) p ≡ starting_at (all_half_chains (links_of graph) sought.persons sought.from sought.to (suc j)) p
       unfolding written
       rights_file j p h l =
-          let a = halves_before (graph_of rows targets) sought.persons sought.to marks j p in
+          let a = halves_before (links_of graph) sought.persons sought.to marks j p in
           let b = map (◌∷◌ p) (rest_from (suc j) p) in
           let q = parted j p h l in
           let n : get_or index (place_of (suc j) p + 1) 0 - get_or index (place_of (suc j) p) 0 ≡ length b = omega (arith, notes j p h (omega arith), next_note j p h l) in
@@ -240,14 +238,14 @@ module _ {rows targets : List ℕ} {sought : Sought} (k : Seeking rows targets s
           ∙ same (rest_from (suc j) p)
           ∙ sym (starting_half (suc j) p ∙ rw (lt-ltb p sought.persons l))
 
-      rights_other : (j p : ℕ) → sought.persons ≤ p → p < persons → indexed_at (written record_size all working) index (suc j) p ≡ starting_at (all_half_chains (graph_of rows targets) sought.persons sought.from sought.to (suc j)) p
+      rights_other : (j p : ℕ) → sought.persons ≤ p → p < persons → indexed_at (written record_size all working) index (suc j) p ≡ starting_at (all_half_chains (links_of graph) sought.persons sought.from sought.to (suc j)) p
       unfolding rests_of
       rights_other j p h l =
           let n : get_or index (place_of (suc j) p + 1) 0 - get_or index (place_of (suc j) p) 0 ≡ 0 = omega (arith, next_empty j p h l) in
           ap (λ (m : ℕ). rests_of (written record_size all working) (suc j) (get_or index (place_of (suc j) p) 0) m) n
           ∙ sym (starting_half (suc j) p ∙ rw (le-ltb p sought.persons h))
 
-      pub rights_index : (j : ℕ) → j ≤ sought.hops / 2 → (p : ℕ) → p < persons → rights_of (written record_size all working) index sought.to j p ≡ starting_at (all_half_chains (graph_of rows targets) sought.persons sought.from sought.to j) p
+      pub rights_index : (j : ℕ) → j ≤ sought.hops / 2 → (p : ℕ) → p < persons → rights_of (written record_size all working) index sought.to j p ≡ starting_at (all_half_chains (links_of graph) sought.persons sought.from sought.to j) p
       unfolding starting_at all_half_chains
       rights_index zero h p l = refl
       rights_index (suc j) h p l = rw (ne_eqb (suc j) 0 (λ e. omega arith)) (⊎_elim (rights_file j p (omega arith)) (λ i. rights_other j p i l) (lt_or_le p sought.persons))
@@ -260,7 +258,7 @@ module _ {rows targets : List ℕ} {sought : Sought} (k : Seeking rows targets s
       ends j p h l =
           ⊎_elim
           (λ i. let q = parted j p h i in
-          omega (arith, next_note j p h i, ap length q.1, length-append (halves_before (graph_of rows targets) sought.persons sought.to marks j p) (map (◌∷◌ p) (rest_from (suc j) p) ++ q.0), length-append (map (◌∷◌ p) (rest_from (suc j) p)) q.0))
+          omega (arith, next_note j p h i, ap length q.1, length-append (halves_before (links_of graph) sought.persons sought.to marks j p) (map (◌∷◌ p) (rest_from (suc j) p) ++ q.0), length-append (map (◌∷◌ p) (rest_from (suc j) p)) q.0))
           (λ i. omega (arith, next_empty j p i l))
           (lt_or_le p sought.persons)
 

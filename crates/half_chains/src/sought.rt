@@ -1,9 +1,11 @@
-// What both modules of this room hand each other and their caller.
+// What both modules of this room are asked by their caller, and what they begin with.
+use pages::HandedOver;
 
-// What half chains are gone through for: to be counted, or to be written.
-pub const COUNT: usize = 0;
-
-pub const WRITE: usize = 1;
+// Nothing handed over yet.
+pub const NOTHING: HandedOver = HandedOver {
+    count: 0,
+    more: false,
+};
 
 // Between whom chains are sought and of how many hops at most, in a file of so many persons.
 #[derive(Clone, Copy)]

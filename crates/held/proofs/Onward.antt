@@ -6,8 +6,7 @@ use mathlib.Core.List.{List, [], ◌∷◌}
 use Prim.Native.Nat.{ℕ}
 use borrow.Author.Tests.{ne_eqb}
 use Rattle.refusals.specs.Faults.{Fault, sound, fault, lent}
-use Rattle.refusals.specs.Answers.{listed, refused, answer_said}
-use Rattle.refusals.specs.declared.Answer as code
+use Rattle.refusals.specs.Answers.{listed, refused, answer_said, Told}
 use Rattle.question.specs.declared.Question.{Question}
 use Rattle.question.specs.Asked.{asked_fault}
 use Rattle.listing.specs.Portions.{Start, bookmarked, start_fault}
@@ -25,7 +24,7 @@ use Rattle.held.specs.Holding.{start_of, held_after, MovedOn}
 use Rattle.held.specs.Calls.{Run, rests, moves, refusal}
 use Rattle.held.proofs.Telling.{none_after}
 
-module _ {file : List ℕ} {held held' : Held} {out out' : List ℕ} {answer : code.Answer} (m : MovedOn file held held' out out' answer) where
+module _ {file : List ℕ} {held held' : Held} {out out' : List ℕ} {answer : Told} (m : MovedOn file held held' out out' answer) where
   -- a refusal leaves the held listing as it was, and so does a portion of no chain
   refused_stays : {number place : ℕ} → answer_said answer ≡ refused number place → held' ≡ held
   refused_stays said = m.keeps ∙ rw (refused_fault m.portioned said)
@@ -81,7 +80,7 @@ quiet_stays (moves m h r) quiet = quiet_stays r quiet.2 ∙ none_stays m quiet.0
 quiet_stays (refusal m said r) quiet = quiet_stays r quiet ∙ refused_stays m said
 
 -- once a call has answered ended, from whatever held listing, every later one answers 0 chains and ended, and nothing changes
-pub held_ended_lem : {file : List ℕ} {held held' held'' : Held} {out out' : List ℕ} {answer : code.Answer} {count : ℕ} {calls : List Call} → MovedOn file held held' out out' answer → answer_said answer ≡ listed count true
+pub held_ended_lem : {file : List ℕ} {held held' held'' : Held} {out out' : List ℕ} {answer : Told} {count : ℕ} {calls : List Call} → MovedOn file held held' out out' answer → answer_said answer ≡ listed count true
     → Run file held' calls held'' → (held'' ≡ held') × Quiet calls
 held_ended_lem {file} {held} {held'} {held''} {calls = calls} m said run =
     let later = subst (λ (q : Question). CallsFor file q (start_of held') calls (start_of held'')) (same_question m) (calls_of run) in

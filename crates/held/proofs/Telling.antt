@@ -1,55 +1,37 @@
 -- What the answer of a portion tells of the held listing: what is to be kept, and which case of its promise holds.
 use mathlib.Core.Path.{◌≡◌, refl, sym, ap, ◌∙◌}
 use mathlib.Core.List.{List, [], ◌∷◌}
-use Prim.Native.Nat.{ℕ, zero, suc, ◌≤◌, ◌<◌}
+use Prim.Native.Nat.{ℕ, zero, suc}
 use native.Mathlib.Omega.{arith}
 use lib.ListN.{length}
 use Rattle.refusals.specs.Faults.{lent}
-use Rattle.refusals.specs.Answers.{Answer, listed, refused, answer_said}
-use Rattle.refusals.specs.declared.Answer as code
-use Rattle.listing.specs.EndToEnd.{count_of, last_record}
-use Rattle.listing.proofs.Telling.{listed_sound, listed_first, listed_count, listed_last, last_within, refused_fault}
+use Rattle.refusals.specs.Answers.{Answer, listed, refused, answer_said, Told}
+use Rattle.listing.specs.EndToEnd.{count_of}
+use Rattle.listing.proofs.Telling.{listed_sound, listed_first, listed_count, listed_last, refused_fault}
 use Rattle.portion.specs.Listing.{portion_fault, portion_for, Portioned}
 use Rattle.portion.proofs.Instance.{chains-listing}
 use Rattle.held.specs.declared.Held.{Held}
-use Rattle.held.specs.declared.Kept.{Kept}
+use Rattle.std.specs.Prelude.{Option, None, Some}
 use Rattle.held.specs.Holding.{start_of, held_after, MovedOn}
-use Rattle.held.specs.Keeping.{RecordsStand, kept_behind}
+use Rattle.held.specs.Keeping.{record_behind}
 
 -- with no chain written nothing in it changes
 pub none_after : (chains : List (List ℕ)) (held : Held) → length chains ≡ 0 → held_after chains held ≡ held
 none_after [] held none = refl
 none_after (c ∷ chains) held none = absurd (omega arith)
 
--- what is kept, by how many were written
-pub kept_none : (count started : ℕ) (bookmark cells : List ℕ) → count ≤ 0 → record { started = started; «record» = bookmark } ≡ kept_behind count started bookmark cells
-kept_none zero started bookmark cells none = refl
-kept_none (suc count) started bookmark cells none = absurd (omega arith)
-
-pub kept_some : (count started : ℕ) (bookmark cells : List ℕ) → 0 < count → record { started = 1; «record» = last_record count cells } ≡ kept_behind count started bookmark cells
-kept_some zero started bookmark cells some = absurd (omega arith)
-kept_some (suc count) started bookmark cells some = refl
-
 -- the held listing with that put into it
-abbrev pub keeping : Held → Kept → Held
-keeping held kept = record { question = held.question; started = kept.started; «record» = kept.«record» }
+abbrev pub keeping : Held → Option (List ℕ) → Held
+keeping held None = held
+keeping held (Some kept) = record { question = held.question; started = 1; «record» = kept }
 
-module _ (file : List ℕ) (held : Held) {out out' : List ℕ} {answer : code.Answer} (p : Portioned file held.question (start_of held) out out' answer) where
-  -- the records that the answer counts stand in the output
-  pub records_stand : RecordsStand (count_of (answer_said answer)) out'
-  records_stand = go (answer_said answer) refl
-    where
-      go : (said : Answer) → answer_said answer ≡ said → RecordsStand (count_of said) out'
-      go (refused number place) i = omega arith
-      go (listed zero ended) i = omega arith
-      go (listed (suc count) ended) i = omega (arith, last_within p i (chains-listing file held.question (listed_first p i)) (omega arith))
-
+module _ (file : List ℕ) (held : Held) {out out' : List ℕ} {answer : Told} (p : Portioned file held.question (start_of held) out out' answer) where
   -- with what is kept behind the portion stored in it, the held listing's promise holds
-  pub moved_on : MovedOn file held (keeping held (kept_behind (count_of (answer_said answer)) held.started held.«record» out')) out out' answer
+  pub moved_on : MovedOn file held (keeping held (record_behind (count_of (answer_said answer)) out')) out out' answer
   moved_on = record { portioned = p; keeps = go (answer_said answer) (portion_for file held.question (start_of held) out) refl refl }
     where
       go : (said : Answer) (chains : List (List ℕ)) → answer_said answer ≡ said → portion_for file held.question (start_of held) out ≡ chains
-          → keeping held (kept_behind (count_of said) held.started held.«record» out') ≡ lent (portion_fault file held.question (start_of held) out) (held_after chains held) held
+          → keeping held (record_behind (count_of said) out') ≡ lent (portion_fault file held.question (start_of held) out) (held_after chains held) held
       go (refused number place) chains i j = rw (refused_fault p i)
       go (listed zero ended) chains i j = rw (listed_sound p i) (sym (none_after chains held (sym (listed_count p i ∙ ap length j))))
       go (listed (suc count) ended) [] i j = absurd (omega (arith, listed_count p i ∙ ap length j))

@@ -17,12 +17,12 @@ use Rattle.ways.proofs.ByHops.{by_hops_iff}
 use Rattle.question.specs.declared.Question.{Question}
 use Rattle.question.specs.Admission.{next}
 use Rattle.join.specs.Lists.{chains_for, join_fault, first_ones, all_fit}
-use Rattle.refusals.specs.Answers.{listed, answer_for, cells_for}
+use Rattle.std.specs.Prelude.{Ok}
+use Rattle.refusals.specs.Answers.{Told, listed, answer_for, cells_for}
 use Rattle.join.specs.Answers.{JoinOf, Joins}
-use Rattle.refusals.specs.declared.Answer as code
 use Rattle.refusals.proofs.Answers.{answer_said_lem}
 
-pub join_one : {first : Fault} {all_half_chains chains : List (List ℕ)} {working working₁ working₂ out out₁ out₂ : List ℕ} {a b : code.Answer}
+pub join_one : {first : Fault} {all_half_chains chains : List (List ℕ)} {working working₁ working₂ out out₁ out₂ : List ℕ} {a b : Told}
     → JoinOf first all_half_chains chains working working₁ out out₁ a → JoinOf first all_half_chains chains working working₂ out out₂ b → (a ≡ b) × (working₁ ≡ working₂) × (out₁ ≡ out₂)
 join_one {a = a} {b} p q = (answer_said_lem a b (p.answers ∙ sym q.answers), p.shelf ∙ sym q.shelf, p.cells ∙ sym q.cells)
 
@@ -37,7 +37,7 @@ pub record Whole (file : List ℕ) (q : Question) (out out' : List ℕ) (count :
   pub all : count ≡ length chains
   pub cells : out' ≡ written record_size chains out
 
-pub join_whole : (file : List ℕ) (q : Question) {working working' out out' : List ℕ} {count : ℕ} → Joins file q working working' out out' (code.TheVariants.Listed count true) → Whole file q out out' count
+pub join_whole : (file : List ℕ) (q : Question) {working working' out out' : List ℕ} {count : ℕ} → Joins file q working working' out out' (Ok (record { count = count; ended = true })) → Whole file q out out' count
 join_whole file q {working} {out = out} {out'} {count} j = go (join_fault file q working out) (all_fit (chains_for file q) out) refl j.answers j.cells
   where
     fits : all_fit (chains_for file q) out ≡ true → first_ones (chains_for file q) out ≡ chains_for file q

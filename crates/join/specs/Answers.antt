@@ -3,37 +3,33 @@ use Rattle.std.specs.Prelude.{◌≡◌, List, ℕ, length}
 use Rattle.ways.specs.Halves.{halves}
 use Rattle.ways.specs.ByHops.{by_hops}
 use Rattle.ways.specs.Sizes.{record_size}
-use Rattle.compact.specs.Compact.{graph_of}
-use Rattle.half_chains.specs.Shelf.{Seeking}
+use Rattle.compact.specs.declared.Graph as lent
+use Rattle.traces.specs.Traces.{links_of}
+use Rattle.half_chains.specs.declared.sought.Sought.{Sought}
 use Rattle.question.specs.declared.Question.{Question}
 use Rattle.refusals.specs.Faults.{Fault}
-use Rattle.refusals.specs.declared.Answer as code
-use Rattle.refusals.specs.Answers.{answer_said, answer_for, cells_for}
+use Rattle.refusals.specs.Answers.{Told, answer_said, answer_for, cells_for}
 use Rattle.join.specs.Lists.{halves_for, chains_for, halves_fault, join_fault, first_ones, all_fit}
 
 -- "the two answers are the portion's": listed, how many and whether that was all, or refused, number and place
 -- a join of which this is the first fault, of any half chains and chains: the answer, all half chains in the working cells, and the first chains in
 -- the output
-pub record JoinOf (first : Fault) (all_half_chains chains : List (List ℕ)) (working working' out out' : List ℕ) (answer : code.Answer) : Type 0 where
+pub record JoinOf (first : Fault) (all_half_chains chains : List (List ℕ)) (working working' out out' : List ℕ) (answer : Told) : Type 0 where
   pub answers : answer_said answer ≡ answer_for first (length (first_ones chains out)) (all_fit chains out)
   pub shelf : working' ≡ cells_for first all_half_chains working
   pub cells : out' ≡ cells_for first (first_ones chains out) out
 
 -- join: those of a file and a question
-abbrev pub Joins : List ℕ → Question → List ℕ → List ℕ → List ℕ → List ℕ → code.Answer → Type 0
+abbrev pub Joins : List ℕ → Question → List ℕ → List ℕ → List ℕ → List ℕ → Told → Type 0
 Joins file q working working' out out' answer = JoinOf (join_fault file q working out) (halves_for file q) (chains_for file q) working working' out out' answer
 
--- the same of a compact graph of n persons, once file and question have passed
-abbrev pub Passed : List ℕ → List ℕ → ℕ → ℕ → ℕ → ℕ → Type 0
-Passed rows targets n from to hops = Seeking rows targets (record { persons = n; from = from; to = to; hops = hops })
-
-abbrev pub halves_in : List ℕ → List ℕ → ℕ → ℕ → ℕ → ℕ → List (List ℕ)
-halves_in rows targets n from to hops = halves (graph_of rows targets) n from to hops
+-- the same of a compact graph, between whom and of how many hops chains are sought
+abbrev pub halves_in : lent.Graph → Sought → List (List ℕ)
+halves_in graph sought = halves (links_of graph) sought.persons sought.from sought.to sought.hops
 
 -- where 18 is all that is left to refuse
-abbrev pub Answered : List (List ℕ) → List (List ℕ) → List ℕ → List ℕ → List ℕ → List ℕ → code.Answer → Type 0
+abbrev pub Answered : List (List ℕ) → List (List ℕ) → List ℕ → List ℕ → List ℕ → List ℕ → Told → Type 0
 Answered all_half_chains chains working working' out out' answer = JoinOf (halves_fault record_size (length working) all_half_chains) all_half_chains chains working working' out out' answer
 
-abbrev pub JoinsIn : List ℕ → List ℕ → ℕ → ℕ → ℕ → ℕ → List ℕ → List ℕ → List ℕ → List ℕ → code.Answer → Type 0
-JoinsIn rows targets n from to hops working working' out out' answer =
-    Answered (halves_in rows targets n from to hops) (by_hops (graph_of rows targets) from to hops) working working' out out' answer
+abbrev pub JoinsIn : lent.Graph → Sought → List ℕ → List ℕ → List ℕ → List ℕ → Told → Type 0
+JoinsIn graph sought working working' out out' answer = Answered (halves_in graph sought) (by_hops (links_of graph) sought.from sought.to sought.hops) working working' out out' answer

@@ -8,49 +8,31 @@
 ghost use Rattle.std.specs.Prelude.{◌≡◌, length};
 ghost use Rattle.refusals.specs.Faults.{sound};
 ghost use Rattle.question.specs.Asked.{asked_room_fault};
-ghost use Rattle.join.specs.Answers.{Joins, Passed, JoinsIn};
+ghost use Rattle.half_chains.specs.Shelf.{Seeking};
+ghost use Rattle.join.specs.Answers.{Joins, JoinsIn};
 
-use compact::{LINKS, STARTS};
+use compact::{Graph, LINKS, STARTS};
 use format::header;
-use half_chains::sought::{COUNT, Sought, WRITE};
+use half_chains::sought::Sought;
 use half_chains::{INDEX, chains, halves};
 use question::{Question, Wanted, filling};
-use refusals::{Answer, Fault};
+use refusals::{Answer, Listed, Reason, unless};
+use traces::tracing::Purpose;
 
-// The join over the compact graph of a file of so many persons: the half chains are counted before any cell is written.
-fn join_graph(
-    rows: &[u16; STARTS],
-    targets: &[u16; LINKS],
-    persons: usize,
-    from: u32,
-    to: u32,
-    hops: u32,
-    working: &mut [u32],
-    out: &mut [u32],
-) -> Answer
-    requires { Passed rows.now targets.now persons from to hops }
-    ensures { JoinsIn rows.now targets.now persons from to hops working.old working.new out.old out.new result }
+// The join over the compact graph of a file: the half chains are counted before any cell is written.
+fn join_graph(graph: Graph<'_>, sought: Sought, working: &mut [u32], out: &mut [u32]) -> Answer
+    requires { Seeking graph sought }
+    ensures { JoinsIn graph.entry sought working.old working.new out.old out.new result }
 {
-    let sought = Sought {
-        persons: persons,
-        from: from as usize,
-        to: to as usize,
-        hops: hops as usize,
-    };
     let mut index = [0usize; INDEX];
-    let counted = halves::shelve(rows, targets, &mut index, working, sought, COUNT);
-    if counted.more != 0 {
-        return Answer::Refused {
-            number: 18,
-            place: 0,
-        };
-    }
-    halves::shelve(rows, targets, &mut index, working, sought, WRITE);
-    let found = chains::gather(rows, targets, working, &index, out, sought);
-    Answer::Listed {
+    let counted = halves::shelve(graph, &mut index, working, sought, Purpose::Count);
+    unless(!counted.more, Reason::Working, 0)?;
+    halves::shelve(graph, &mut index, working, sought, Purpose::Write);
+    let found = chains::gather(graph, working, &index, out, sought);
+    Ok(Listed {
         count: found.count,
-        ended: found.more == 0,
-    }
+        ended: !found.more,
+    })
 }
 
 // The join where the file, the question and the output have passed.
@@ -58,33 +40,27 @@ fn joined(file: &[u8], question: Question, working: &mut [u32], out: &mut [u32])
     requires { asked_room_fault file.now question (length out.old) ≡ sound }
     ensures { Joins file.now question working.old working.new out.old out.new result }
 {
-    let mut rows = [0u16; STARTS];
+    let mut starts = [0u16; STARTS];
     let mut targets = [0u16; LINKS];
-    filling::fill(file, question, &mut rows, &mut targets);
+    filling::fill(file, question, &mut starts, &mut targets);
+    let graph = Graph {
+        starts: &starts,
+        targets: &targets,
+    };
     let counts = header::counts(file);
-    join_graph(
-        &rows,
-        &targets,
-        counts.persons,
-        question.from,
-        question.to,
-        question.hops,
-        working,
-        out,
-    )
+    let sought = Sought {
+        persons: counts.persons,
+        from: question.from as usize,
+        to: question.to as usize,
+        hops: question.hops as usize,
+    };
+    join_graph(graph, sought, working, out)
 }
 
 // Lists the chains by joining half chains: all half chains are written to `working`, the first chains, shorter first, to `out`.
 pub fn join(file: &[u8], question: Question, working: &mut [u32], out: &mut [u32]) -> Answer
     ensures { Joins file.now question working.old working.new out.old out.new result }
 {
-    if let Fault::At(number, place) = question::asked_room(
-        file,
-        question,
-        Wanted::Chains,
-        out.len(),
-    ) {
-        return Answer::Refused { number, place };
-    }
+    question::asked_room(file, question, Wanted::Chains, out.len())?;
     joined(file, question, working, out)
 }

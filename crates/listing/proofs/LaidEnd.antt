@@ -7,8 +7,7 @@ use native.Mathlib.Omega.{arith}
 use lib.ListN.{length, take, drop}
 use lib.Seq.{take_at, take-add}
 use Rattle.refusals.specs.Faults.{Fault, sound}
-use Rattle.refusals.specs.Answers.{listed, answer_said}
-use Rattle.refusals.specs.declared.Answer as code
+use Rattle.refusals.specs.Answers.{Told, listed, answer_said}
 use Rattle.refusals.proofs.Faults.{unless_none}
 use Rattle.ways.specs.Graph.{◌∈◌}
 use Rattle.ways.specs.Portions.{after, last_or}
@@ -24,7 +23,7 @@ use Rattle.listing.proofs.Known.{portion_in_lem, fresh_all, passes, last_kept}
 
 module _ {first : Fault} {chains : List (List ℕ)} (none_first : first ≡ sound) (is : Listing chains) where
   -- what a call that is not refused says and writes
-  module _ {start : Start} {out exit : List ℕ} {answer : code.Answer} (p : PortionOf first chains start out exit answer) (none : refusal_of first chains start out ≡ sound) where
+  module _ {start : Start} {out exit : List ℕ} {answer : Told} (p : PortionOf first chains start out exit answer) (none : refusal_of first chains start out ≡ sound) where
     said : answer_said answer ≡ listed (length (portion_of chains start out)) (ended_of chains start out)
     said = p.answers ∙ rw none
 

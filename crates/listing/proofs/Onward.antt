@@ -8,8 +8,7 @@ use lib.ListN.{length}
 use lib.Seq.{take-nil}
 use borrow.Author.Tests.{le-leb}
 use Rattle.refusals.specs.Faults.{Fault, sound}
-use Rattle.refusals.specs.Answers.{Answer, listed, refused, answer_said}
-use Rattle.refusals.specs.declared.Answer as code
+use Rattle.refusals.specs.Answers.{Told, Answer, listed, refused, answer_said}
 use Rattle.ways.specs.Graph.{◌∈◌}
 use Rattle.ways.specs.Portions.{after, last_or}
 use Rattle.ways.specs.Records.{room_of, written, cells_of}
@@ -23,7 +22,7 @@ use Rattle.listing.proofs.Telling.{sound_first, listed_sound, listed_first, list
 
 -- where there is no fault before the portion, the chains are a listing
 module _ {first : Fault} {chains : List (List ℕ)} (is : first ≡ sound → Listing chains) where
-  module _ {start start' : Start} {out out' : List ℕ} {answer : code.Answer} (m : MovesOn first chains start start' out out' answer) where
+  module _ {start start' : Start} {out out' : List ℕ} {answer : Told} (m : MovesOn first chains start start' out out' answer) where
     -- a refusal leaves the start as it was
     refused_stays : {number place : ℕ} → answer_said answer ≡ refused number place → start' ≡ start
     refused_stays said = m.keeps ∙ rw (refused_fault m.portioned said)
@@ -57,7 +56,7 @@ module _ {first : Fault} {chains : List (List ℕ)} (is : first ≡ sound → Li
     over : after (starts_after start) chains ≡ []
 
   -- there a call with room for a record answers 0 chains and ended, and changes nothing
-  end_stays : {start start' : Start} {out out' : List ℕ} {answer : code.Answer} → AtEnd start → MovesOn first chains start start' out out' answer → record_size ≤ length out
+  end_stays : {start start' : Start} {out out' : List ℕ} {answer : Told} → AtEnd start → MovesOn first chains start start' out out' answer → record_size ≤ length out
       → (start' ≡ start) × (answer_said answer ≡ listed 0 true) × (out' ≡ out)
   unfolding written cells_of
   end_stays {start} {out = out} s m h =
@@ -74,7 +73,7 @@ module _ {first : Fault} {chains : List (List ℕ)} (is : first ≡ sound → Li
   end_quiet s (refusal m said r) = end_quiet (subst AtEnd (sym (refused_stays m said)) s) r
 
   -- a call that answers ended leads there
-  module _ {start start' : Start} {out out' : List ℕ} {answer : code.Answer} {count : ℕ} (m : MovesOn first chains start start' out out' answer) (said : answer_said answer ≡ listed count true) where
+  module _ {start start' : Start} {out out' : List ℕ} {answer : Told} {count : ℕ} (m : MovesOn first chains start start' out out' answer) (said : answer_said answer ≡ listed count true) where
     ended_leads : AtEnd start'
     ended_leads = go (portion_of chains start out) refl (listed_moves m said) over
       where
@@ -93,6 +92,6 @@ module _ {first : Fault} {chains : List (List ℕ)} (is : first ≡ sound → Li
             subst AtEnd (sym k) (record { none = passed.0; good = bookmark.passing; over = rw bookmark.mark n })
 
   -- and then for ever: once a call has answered ended, every later one answers 0 chains and ended
-  pub ended_quiet : {start start' start'' : Start} {out out' : List ℕ} {answer : code.Answer} {count : ℕ} {calls : List Call} → MovesOn first chains start start' out out' answer → answer_said answer ≡ listed count true
+  pub ended_quiet : {start start' start'' : Start} {out out' : List ℕ} {answer : Told} {count : ℕ} {calls : List Call} → MovesOn first chains start start' out out' answer → answer_said answer ≡ listed count true
       → Calls first chains start' calls start'' → Quiet calls
   ended_quiet m said run = end_quiet (ended_leads m said) run

@@ -2,13 +2,12 @@
 use mathlib.Core.Path.{◌≡◌, sym, ap, subst, ◌∙◌}
 use mathlib.Core.Bool.{Bool}
 use mathlib.Core.List.{List, ◌∷◌}
-use Prim.Native.Nat.{ℕ, ◌+◌, ◌-◌, ◌*◌, ◌≤◌, ◌<◌}
+use Prim.Native.Nat.{ℕ, ◌-◌, ◌*◌, ◌≤◌}
 use native.Mathlib.Omega.{arith}
 use lib.ListN.{length, drop, length-take}
 use lib.Dec.{leb}
 use Rattle.refusals.specs.Faults.{Fault, sound, fault}
-use Rattle.refusals.specs.Answers.{listed, refused, answer_said, room_fault}
-use Rattle.refusals.specs.declared.Answer as code
+use Rattle.refusals.specs.Answers.{Told, listed, refused, answer_said, room_fault}
 use Rattle.refusals.proofs.Faults.{first_both, unless_none}
 use Rattle.refusals.proofs.Answers.{answer_listed, answer_refused}
 use Rattle.ways.specs.Graph.{◌∈◌}
@@ -30,7 +29,7 @@ sound_first first chains start out e =
     (both.0, (unless_none (leb record_size (length out)) 16 0 both.1).1)
 
 -- what the answer tells of the portion
-module _ {first : Fault} {chains : List (List ℕ)} {start : Start} {out out' : List ℕ} {answer : code.Answer} (p : PortionOf first chains start out out' answer) where
+module _ {first : Fault} {chains : List (List ℕ)} {start : Start} {out out' : List ℕ} {answer : Told} (p : PortionOf first chains start out out' answer) where
   pub refused_fault : {number place : ℕ} → answer_said answer ≡ refused number place → refusal_of first chains start out ≡ fault number place
   refused_fault said = answer_refused (refusal_of first chains start out) (length (portion_of chains start out)) (ended_of chains start out) (sym said ∙ p.answers)
 
@@ -64,10 +63,6 @@ module _ {first : Fault} {chains : List (List ℕ)} {start : Start} {out out' : 
 
       pub listed_length : length out' ≡ length out
       listed_length = ap length listed_cells ∙ length-written record_size (portion_of chains start out) out listed_fits listed_room
-
-      -- the last record stands in the output
-      pub last_within : 0 < count → (count - 1) * record_size + record_size ≤ length out'
-      last_within some = omega (arith, listed_count, listed_length, listed_room)
 
       pub listed_last : (c : List ℕ) (rest : List (List ℕ)) → portion_of chains start out ≡ c ∷ rest → last_record count out' ≡ record_of record_size (last_or c rest)
       unfolding written

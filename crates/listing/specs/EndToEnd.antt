@@ -3,16 +3,15 @@ use Rattle.std.specs.Prelude.{◌≡◌, ◌≢◌, ◌↔◌, Bool, true, false
 use Rattle.ways.specs.Records.{chain_of, room_of, cells_of}
 use Rattle.ways.specs.Sizes.{record_size}
 use Rattle.refusals.specs.Faults.{Fault}
-use Rattle.refusals.specs.declared.Answer as code
 use Rattle.listing.specs.Portions.{Start, bookmarked}
 use Rattle.listing.specs.Answers.{PortionOf}
-use Rattle.refusals.specs.Answers.{Answer, listed, refused, answer_said}
+use Rattle.refusals.specs.Answers.{Told, Answer, listed, refused, answer_said}
 
 -- one call: the output as it was lent and at exit, and the answer
 pub record Call : Type 0 where
   pub out : List ℕ
   pub exit : List ℕ
-  pub answer : code.Answer
+  pub answer : Told
 
 -- how many chains a call has room for
 abbrev pub room_in : Call → ℕ

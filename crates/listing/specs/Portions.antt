@@ -1,5 +1,6 @@
 -- Where a portion of a listing starts, when it is refused, and which chains it has. Definitions only.
-use Rattle.std.specs.Prelude.{List, [], ◌∷◌, ◌++◌, Bool, cond, ℕ, length, eqb}
+use Rattle.std.specs.Prelude.{List, [], ◌∷◌, ◌++◌, Bool, cond, ℕ, length, eqb, Option, None, Some}
+use Rattle.std.specs.Borrow.{Bor}
 use Rattle.refusals.specs.Faults.{Fault, sound, unless, first_of}
 use Rattle.refusals.specs.Answers.{room_fault}
 use Rattle.ways.specs.Graph.{◌∈◌}
@@ -18,9 +19,14 @@ pub data Start : Type 0 where
   fresh : Start
   bookmarked : List ℕ → Start
 
--- a mark of its own says whether the listing was started: with 0 the bookmark isn't looked at
+-- at the C door a mark of its own says whether the listing was started: with 0 the bookmark isn't looked at
 abbrev pub start_said : ℕ → List ℕ → Start
 start_said started bookmark = cond (eqb started 0) fresh (bookmarked bookmark)
+
+-- in code a start is the library's `Option`: none is fresh, and some are the cells of a bookmark
+abbrev pub start_given : Option (Bor (List ℕ)) → Start
+start_given None = fresh
+start_given (Some bookmark) = bookmarked bookmark.now
 
 -- the chain after which a portion starts: a fresh start comes before every chain
 abbrev pub starts_after : Start → List ℕ

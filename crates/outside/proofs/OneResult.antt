@@ -9,8 +9,7 @@ use lib.ListN.{length}
 use Rattle.question.specs.declared.Question.{Question}
 use Rattle.listing.specs.Portions.{Start}
 use Rattle.refusals.specs.Faults.{Fault}
-use Rattle.refusals.specs.Answers.{answer_said}
-use Rattle.refusals.specs.declared.Answer as code
+use Rattle.refusals.specs.Answers.{answer_said, Told}
 use Rattle.listing.proofs.OneResult.{portion_one}
 use Rattle.held.proofs.OneResult.{held_one}
 use Rattle.join.proofs.OneResult.{join_one}
@@ -30,8 +29,8 @@ pub kin_fewest_one : (file : List ℕ) (q : Question) (person : ℕ) {a b : ℕ}
 kin_fewest_one file q person one other = one ∙ sym other
 
 -- the same answer gives the same number
-same_number : (x y : code.Answer) {a b : ℕ} → x ≡ y → a ≡ listed_number (answer_said x) → b ≡ listed_number (answer_said y) → a ≡ b
-same_number x y e one other = one ∙ ap (λ (x : code.Answer). listed_number (answer_said x)) e ∙ sym other
+same_number : (x y : Told) {a b : ℕ} → x ≡ y → a ≡ listed_number (answer_said x) → b ≡ listed_number (answer_said y) → a ≡ b
+same_number x y e one other = one ∙ ap (λ (x : Told). listed_number (answer_said x)) e ∙ sym other
 
 -- a portion of any listing, chains or rings
 pub kin_listing_one : {first : Fault} {chains : List (List ℕ)} {start : Start} {out exit other : List ℕ} {a b : ℕ}

@@ -6,13 +6,13 @@ use Rattle.checking.specs.Rows.{row_view}
 use Rattle.question.specs.declared.Question.{Question}
 use Rattle.distance.specs.Answers as distance
 use Rattle.refusals.specs.Answers as answers
+use Rattle.refusals.specs.Answers.{Told}
 use Rattle.refusals.specs.Faults.{Fault}
 use Rattle.question.specs.Asked.{asked_fault, rings_asked_fault}
 use Rattle.portion.specs.Listing.{listing_for}
 use Rattle.rings.specs.Rings.{rings_for}
 use Rattle.listing.specs.Portions.{Start}
 use Rattle.listing.specs.Answers.{PortionOf}
-use Rattle.refusals.specs.declared.Answer as code
 use Rattle.join.specs.Answers.{Joins}
 
 -- the eight numbers of a question, in the customer's order
@@ -61,7 +61,7 @@ FewestNumber file q person number = number ≡ hops_number (distance.answered fi
 
 -- a portion of any listing, of which this is the first fault before it is looked at
 pub record ListingNumber (first : Fault) (chains : List (List ℕ)) (start : Start) (out out' : List ℕ) (number : ℕ) : Type 0 where
-  pub answer : code.Answer
+  pub answer : Told
   pub portioned : PortionOf first chains start out out' answer
   pub small : Small (answers.answer_said answer)
   pub answers : number ≡ listed_number (answers.answer_said answer)
@@ -73,7 +73,7 @@ abbrev pub RingsNumber : List ℕ → Question → Start → List ℕ → List �
 RingsNumber file q start out out' number = ListingNumber (rings_asked_fault file q) (rings_for file q) start out out' number
 
 pub record JoinNumber (file : List ℕ) (q : Question) (working working' out out' : List ℕ) (number : ℕ) : Type 0 where
-  pub answer : code.Answer
+  pub answer : Told
   pub joins : Joins file q working working' out out' answer
   pub small : Small (answers.answer_said answer)
   pub answers : number ≡ listed_number (answers.answer_said answer)

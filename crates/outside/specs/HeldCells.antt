@@ -3,8 +3,7 @@
 use Rattle.std.specs.Prelude.{◌≡◌, Bool, true, false, ◌||◌, cond, List, ◌∷◌, ◌++◌, ℕ, ◌+◌, ◌-◌, ◌^◌, length, get_or, take, drop, eqb}
 use Rattle.ways.specs.Sizes.{record_size}
 use Rattle.question.specs.declared.Question.{Question}
-use Rattle.refusals.specs.Answers.{answer_said}
-use Rattle.refusals.specs.declared.Answer as code
+use Rattle.refusals.specs.Answers.{answer_said, Told}
 use Rattle.held.specs.declared.Held.{Held}
 use Rattle.held.specs.Holding.{MovedOn}
 use Rattle.outside.specs.Encoded.{asking, Small, listed_number}
@@ -51,7 +50,7 @@ cells_of_held cells held = take (numbers_in cells) cells ++ held.started ∷ tak
 
 -- a call on the cells of a held listing does what its promise says
 pub record MovedCells (file cells cells' out out' : List ℕ) (number : ℕ) : Type 0 where
-  pub answer : code.Answer
+  pub answer : Told
   pub held : Held
   pub moves : MovedOn file (held_of cells) held out out' answer
   pub small : Small (answer_said answer)

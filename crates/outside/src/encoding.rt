@@ -1,10 +1,14 @@
 // How a question comes as numbers, and how an answer is put into one number of 64 bits.
-ghost use Rattle.std.specs.Prelude.{◌≡◌, ◌<◌, ◌^◌};
+ghost use Rattle.std.specs.Prelude.{◌≡◌};
 ghost use Rattle.refusals.specs.Answers.{answer_said};
+ghost use Rattle.refusals.specs.Reasons.{number_of};
 ghost use Rattle.outside.specs.Encoded.{asking, Small, refusal_number, listed_number};
 
 use question::Question;
-use refusals::Answer;
+use refusals::{Answer, Refusal};
+
+// What every refusal is counted from, and the answer to held cells of a wrong size.
+pub const REFUSED: u64 = 0x8000_0000_0000_0000;
 
 // The eight numbers of a question, in the customer's order.
 pub fn asking(
@@ -32,11 +36,10 @@ pub fn asking(
 }
 
 // A refusal: 2^63 + number * 2^32 + place.
-pub fn refusal_number(number: u32, place: u32) -> u64
-    requires { number < 2 ^ 31 }
-    ensures { result ≡ refusal_number number place }
+pub fn refusal_number(refusal: Refusal) -> u64
+    ensures { result ≡ refusal_number (number_of refusal.reason) refusal.place }
 {
-    0x8000_0000_0000_0000 + number as u64 * 0x1_0000_0000 + place as u64
+    REFUSED + u64::from(refusal.reason.number()) * 0x1_0000_0000 + u64::from(refusal.place)
 }
 
 // A listing: count + ended * 2^62, or the refusal.
@@ -45,7 +48,7 @@ pub fn listed_number(answer: Answer) -> u64
     ensures { result ≡ listed_number (answer_said answer) }
 {
     match answer {
-        Answer::Listed { count, ended } => { count as u64 + ended as u64 * 0x4000_0000_0000_0000 }
-        Answer::Refused { number, place } => refusal_number(number, place),
+        Ok(listed) => listed.count as u64 + u64::from(listed.ended) * 0x4000_0000_0000_0000,
+        Err(refusal) => refusal_number(refusal),
     }
 }

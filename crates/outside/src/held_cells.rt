@@ -73,5 +73,5 @@ pub fn keep(lent: &mut [u32], held: Held)
     let numbers = lent.len() - BEHIND;
     let record = held.record;
     lent[numbers] = held.started;
-    pages::put(lent, numbers + 1, record);
+    pages::put(lent, numbers + 1, &record);
 }

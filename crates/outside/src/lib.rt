@@ -13,8 +13,7 @@ ghost use Rattle.listing.specs.Portions.{start_said};
 ghost use Rattle.outside.specs.Encoded.{CheckNumber, RowNumber, FewestNumber, PortionNumber, RingsNumber, JoinNumber, asking};
 ghost use Rattle.outside.specs.HeldCells.{HeldNumber};
 
-use checking::Verdict;
-use encoding::{asking, listed_number, refusal_number};
+use encoding::{REFUSED, asking, listed_number, refusal_number};
 use held_cells::{held_of, is_held, keep};
 
 // Passed: n + m * 2^16 + f * 2^32.
@@ -23,12 +22,12 @@ pub extern "C" fn kin_check(file: &[u8]) -> u64
     ensures { CheckNumber file.now result }
 {
     match checking::check(file) {
-        Verdict::Passed {
-            persons,
-            links,
-            feeds,
-        } => persons as u64 + links as u64 * 0x1_0000 + feeds as u64 * 0x1_0000_0000,
-        Verdict::Refused { number, place } => refusal_number(number, place),
+        Ok(counts) => {
+            counts.persons as u64
+                + counts.links as u64 * 0x1_0000
+                + counts.feeds as u64 * 0x1_0000_0000
+        }
+        Err(refusal) => refusal_number(refusal),
     }
 }
 
@@ -58,8 +57,8 @@ pub extern "C" fn kin_fewest(
 {
     let question = asking(from, to, hops, classes, meaning, first, last, undated);
     match distance::fewest(file, question, person) {
-        distance::HopsAnswer::Hops(fewest) => fewest as u64,
-        distance::HopsAnswer::Refused { number, place } => refusal_number(number, place),
+        Ok(fewest) => u64::from(fewest),
+        Err(refusal) => refusal_number(refusal),
     }
 }
 
@@ -82,7 +81,7 @@ pub extern "C" fn kin_portion(
     ensures { PortionNumber file.now (asking from to hops classes meaning first last undated) (start_said started bookmark.now) out.old out.new result }
 {
     let question = asking(from, to, hops, classes, meaning, first, last, undated);
-    listed_number(portion::portion(file, question, started, bookmark, out))
+    listed_number(portion::portion(file, question, listing::start(started, bookmark), out))
 }
 
 // The rings back to the same person: From and To are one. Answers as kin_portion.
@@ -104,7 +103,7 @@ pub extern "C" fn kin_rings(
     ensures { RingsNumber file.now (asking from to hops classes meaning first last undated) (start_said started bookmark.now) out.old out.new result }
 {
     let question = asking(from, to, hops, classes, meaning, first, last, undated);
-    listed_number(rings::rings(file, question, started, bookmark, out))
+    listed_number(rings::rings(file, question, listing::start(started, bookmark), out))
 }
 
 // Half chains to the working cells, chains to the output. Answers as kin_portion.
@@ -135,7 +134,7 @@ pub extern "C" fn kin_held(cells: &mut [u32], file: &[u8], out: &mut [u32]) -> u
     ensures { HeldNumber file.now cells.old cells.new out.old out.new result }
 {
     if !is_held(cells.len()) {
-        return refusal_number(0, 0);
+        return REFUSED;
     }
     let before = held_of(cells);
     let outcome = held::advanced(before, file, out);

@@ -1,7 +1,8 @@
 // The exports for C: each of the functions of `outside` under its own name, with its own promise.
 //
 // A crate is a library or a static library. `outside` is the library, on which the room `demands` stands; this is the static library over
-// it, which is handed on under the name liboutside.a, as include/kin.h has it. Nothing is done here but the call.
+// it, which is handed on under the name liboutside.a, as include/kin.h has it. Nothing is done here but the call:
+// C asks for each function by a name of its own, so each stands here once more.
 #![tactic(auto)]
 
 ghost use Rattle.listing.specs.Portions.{start_said};

@@ -1,25 +1,24 @@
 -- What is handed over: records one behind the other, while there is room. Definitions only.
-use Rattle.std.specs.Prelude.{cond, List, [], ◌∷◌, ℕ, ◌+◌, ◌-◌, ◌*◌, set, replicate, ltb, eqb}
+use Rattle.std.specs.Prelude.{Bool, true, false, cond, List, [], ◌∷◌, ℕ, ◌+◌, ◌-◌, ◌*◌, set, replicate, ltb}
 use Rattle.std.proofs.Math.Seq.{paste}
 use Rattle.ways.specs.Sizes.{record_size}
 
--- so many chains were handed over, whether there was one more (1), and the cells
+-- so many chains were handed over, whether there was one more, and the cells
 pub record Page : Type 0 where
   pub count : ℕ
-  pub more : ℕ
+  pub more : Bool
   pub cells : List ℕ
 
--- one more record: counted if there is room, and written unless only counting (0); else noted; and nothing once one was noted
-abbrev pub emit : ℕ → ℕ → Page → List ℕ → Page
+-- one more record: counted if there is room, and written unless they are only counted; else noted; and nothing once one was noted
+abbrev pub emit : Bool → ℕ → Page → List ℕ → Page
 emit writes room s r =
-    cond (eqb s.more 0)
+    cond s.more s
     (cond (ltb s.count room)
-    (record { count = s.count + 1; more = 0; cells = cond (eqb writes 0) s.cells (paste s.cells (s.count * record_size) r record_size) })
-    (record { count = s.count; more = 1; cells = s.cells }))
-    s
+    (record { count = s.count + 1; more = false; cells = cond writes (paste s.cells (s.count * record_size) r record_size) s.cells })
+    (record { count = s.count; more = true; cells = s.cells }))
 
 -- so each of several
-unfoldable pub emits : ℕ → ℕ → Page → List (List ℕ) → Page
+unfoldable pub emits : Bool → ℕ → Page → List (List ℕ) → Page
 emits writes room s [] = s
 emits writes room s (r ∷ rs) = emits writes room (emit writes room s r) rs
 

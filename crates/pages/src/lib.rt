@@ -12,19 +12,19 @@ ghost use Rattle.ways.specs.Sizes.{record_size};
 
 use ways::RECORD;
 
-// What was handed over: so many chains, and whether there is one more than there is room for (1) or none (0).
+// What was handed over: so many chains, and whether there is one more than there is room for.
 #[derive(Clone, Copy)]
 pub struct HandedOver {
     pub count: usize,
-    pub more: usize,
+    pub more: bool,
 }
 
 // Copies the cells of the chain to `out`, from cell `at` on.
-pub fn put(out: &mut [u32], at: usize, chain: [u32; RECORD])
+pub fn put(out: &mut [u32], at: usize, chain: &[u32; RECORD])
     requires { at + record_size ≤ length out.old }
-    ensures { out.new ≡ paste out.old at chain record_size }
+    ensures { out.new ≡ paste out.old at chain.now record_size }
 {
-    cells::copy(out, at, &chain, 0, RECORD);
+    cells::copy(out, at, chain, 0, RECORD);
 }
 
 // The record that stands in the cells from `at` on.

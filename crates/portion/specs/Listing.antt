@@ -1,7 +1,7 @@
 -- What a file and a question list, and the promise of the portion: the first instance of a listing (listing, specs/). Definitions only.
+use Rattle.refusals.specs.Answers.{Told}
 use Rattle.std.specs.Prelude.{List, Bool, ℕ}
 use Rattle.refusals.specs.Faults.{Fault}
-use Rattle.refusals.specs.declared.Answer as code
 use Rattle.ways.specs.Listing.{listing}
 use Rattle.question.specs.declared.Question.{Question}
 use Rattle.question.specs.Asked.{asked_fault, asked_numbers}
@@ -35,7 +35,7 @@ abbrev pub ended_for : List ℕ → Question → Start → List ℕ → Bool
 ended_for file q start out = ended_of (listing_for file q) start out
 
 -- portion: the answer, and the output at exit
-abbrev pub Portioned : List ℕ → Question → Start → List ℕ → List ℕ → code.Answer → Type 0
+abbrev pub Portioned : List ℕ → Question → Start → List ℕ → List ℕ → Told → Type 0
 Portioned file q start out out' answer = PortionOf (asked_fault file q) (listing_for file q) start out out' answer
 
 -- a run of calls on one file and question, from a start on

@@ -44,13 +44,13 @@ pub record Appending (file : List ℕ) (q : Question) (person start stop : ℕ) 
   pub people : People targets
   pub rest : take end targets ++ led file q link (stop - link) ≡ take start before ++ next file q person
 
-module _ {file : List ℕ} {counts : Counts} {person start : ℕ} {before : List ℕ} (a : Appendable file counts person start before) (h : person < counts.persons) where
+module _ {file : List ℕ} {counts : Counts} {person start : ℕ} {before : List ℕ} (laid : Laid file counts) (a : Appendable file person start before) (h : person < counts.persons) where
   passed : Passed file (person_count file) (link_count file) (feed_count file)
   passed = sound_rules file a.faultless
 
   -- the row lies among the links
   pub append_lies : Lies file counts person
-  append_lies = row_lies a.laid passed (omega (arith, a.laid.persons))
+  append_lies = row_lies laid passed (omega (arith, laid.persons))
 
   module _ {q : Question} {stop : ℕ} (s : stop ≡ row file (person + 1)) where
     pub appending_starts : {link : ℕ} → link ≡ row file person → Appending file q person start stop before link start before
@@ -58,22 +58,22 @@ module _ {file : List ℕ} {counts : Counts} {person start : ℕ} {before : List
         let lies = append_lies in record {
           from = omega arith;
           to = omega (arith, lies);
-          room = omega (arith, a.room h);
+          room = omega (arith, a.room (omega (arith, laid.persons)));
           links = a.links;
           people = a.people;
-          rest = rw (e, s, next_some file q person (omega (arith, a.laid.persons)));
+          rest = rw (e, s, next_some file q person (omega (arith, laid.persons)));
         }
 
     module _ {link end : ℕ} {targets : List ℕ} (i : Appending file q person start stop before link end targets) where
       module _ (l : link < stop) where
         pub appending_link : Ruled (counts_in file) person (before_in file person link) (link_in file link)
-        appending_link = passed_link passed person link (omega (arith, a.laid.persons)) i.from (omega arith)
+        appending_link = passed_link passed person link (omega (arith, laid.persons)) i.from (omega arith)
 
-        pub appending_fed : Fed file counts link
-        appending_fed = let lies = append_lies in record { laid = a.laid; below = omega (arith, lies); fed = appending_link.fed }
+        pub appending_fed : Fed file link
+        appending_fed = let lies = append_lies in record { below = omega (arith, lies, laid.links); fed = appending_link.fed }
 
         pub appending_person : target file link < persons
-        appending_person = omega (arith, appending_link.person, a.laid)
+        appending_person = omega (arith, appending_link.person, laid)
 
         left : stop - link ≡ suc (stop - (link + 1))
         left = omega arith
@@ -96,7 +96,7 @@ module _ {file : List ℕ} {counts : Counts} {person start : ℕ} {before : List
         unfolding numbers_from keep
         appending_adds {v} e t sets moves =
             let lies = append_lies in
-            let fits : end < length targets = omega (arith, i.room, i.links, lies, a.laid) in
+            let fits : end < length targets = omega (arith, i.room, i.links, lies, laid) in
             rw (sets, moves) record {
               from = omega (arith, i.from);
               to = omega arith;
@@ -114,50 +114,33 @@ module _ {file : List ℕ} {counts : Counts} {person start : ℕ} {before : List
           let none : stop - link ≡ 0 = omega arith in record {
             written = sym (append-nil (take end targets)) ∙ (rw none at i.rest);
             people = i.people;
-            within = omega (arith, i.room, i.to, lies, a.laid);
+            within = omega (arith, i.room, i.to, lies, laid);
             room = λ inside. omega (arith, i.room, i.to);
           }
 
 -- whoever is not in the file adds nobody
-pub appended_none : {file : List ℕ} {counts : Counts} {person start : ℕ} {before : List ℕ} {q : Question} → Appendable file counts person start before → counts.persons ≤ person → Appended file q person start start before before
-appended_none {file} {counts} {person} {start} {before} {q} a h = record {
-  written = rw (next_none file q person (omega (arith, a.laid.persons))) (sym (append-nil (take start before)));
+pub appended_none : {file : List ℕ} {counts : Counts} {person start : ℕ} {before : List ℕ} {q : Question} → Laid file counts → Appendable file person start before → counts.persons ≤ person → Appended file q person start start before before
+appended_none {file} {counts} {person} {start} {before} {q} laid a h = record {
+  written = rw (next_none file q person (omega (arith, laid.persons))) (sym (append-nil (take start before)));
   people = a.people;
   within = a.within;
-  room = λ inside. absurd (omega (arith, a.laid.persons));
+  room = λ inside. absurd (omega (arith, laid.persons));
 }
 
 -- Row by row: the rows of all persons so far are there.
-pub record Filling (file : List ℕ) (counts : Counts) (q : Question) (person end : ℕ) (starts targets : List ℕ) : Type 0 where
+pub record Filling (file : List ℕ) (q : Question) (person end : ℕ) (starts targets : List ℕ) : Type 0 where
   pub to : person ≤ persons
   pub rows : length starts ≡ suc persons
   pub links : length targets ≡ most_links
   pub people : People targets
   pub within : end ≤ most_links
-  pub room : person < counts.persons → end ≤ row file person
+  pub room : person < person_count file → end ≤ row file person
   pub last : get_or starts person 0 ≡ end
   pub rise : (p : ℕ) → p < person → get_or starts p 0 ≤ get_or starts (p + 1) 0
   pub ends : (p : ℕ) → p < person → get_or starts (p + 1) 0 ≤ end
   pub graph : (p : ℕ) → p < person → graph_of starts targets p ≡ next file q p
 
-pub filling_starts : {file : List ℕ} {counts : Counts} {q : Question} {starts targets : List ℕ} → Fillable file starts targets → Filling file counts q 0 0 (set starts 0 0) targets
-filling_starts {starts = starts} f = record {
-  to = omega arith;
-  rows = length-set starts 0 0 ∙ f.rows;
-  links = f.links;
-  people = f.people;
-  within = omega arith;
-  room = λ h. omega arith;
-  last = get_or-set_same starts 0 0 0 (omega (arith, f.rows));
-  rise = λ p h. absurd (omega arith);
-  ends = λ p h. absurd (omega arith);
-  graph = λ p h. absurd (omega arith);
-}
-
-module _ {file : List ℕ} {counts : Counts} {q : Question} {person end : ℕ} {starts targets : List ℕ} (laid : Laid file counts) (faultless : file_fault file ≡ sound) (f : Filling file counts q person end starts targets) where
-  pub filling_on : Appendable file counts person end targets
-  filling_on = record { laid = laid; faultless = faultless; links = f.links; people = f.people; within = f.within; room = f.room }
-
+module _ {file : List ℕ} {counts : Counts} {q : Question} {person end : ℕ} {starts targets : List ℕ} (laid : Laid file counts) (faultless : file_fault file ≡ sound) (f : Filling file q person end starts targets) where
   module _ {stop : ℕ} {after : List ℕ} (h : person < persons) (same : length after ≡ length targets) (a : Appended file q person end stop targets after) where
     wrote : length (take stop after) ≡ stop
     wrote = length-take-le stop after (omega (arith, a.within, f.links))
@@ -186,7 +169,7 @@ module _ {file : List ℕ} {counts : Counts} {q : Question} {person end : ℕ} {
     row_new : graph_of (set starts (person + 1) stop) after person ≡ next file q person
     row_new = rw (kept person (omega arith), f.last, new, a.written) (drop_at (take end targets) (next file q person) end had)
 
-    pub filling_adds : Filling file counts q (person + 1) stop (set starts (person + 1) stop) after
+    pub filling_adds : Filling file q (person + 1) stop (set starts (person + 1) stop) after
     filling_adds = record {
       to = omega arith;
       rows = length-set starts (person + 1) stop ∙ f.rows;

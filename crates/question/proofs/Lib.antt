@@ -2,7 +2,6 @@
 pub mod Refused
 pub mod Answerable
 pub mod Numbered
-pub mod Classed
 pub mod Leads
 pub mod Undated
 pub mod Growing

@@ -3,8 +3,6 @@ use Rattle.std.specs.Prelude.{◌≡◌, List, ◌++◌, ℕ, suc, ◌+◌, ◌�
 use Rattle.format.specs.Format.{person_count, row}
 use Rattle.refusals.specs.Faults.{sound}
 use Rattle.checking.specs.Checked.{file_fault}
-use Rattle.format.specs.Laid.{Laid}
-use Rattle.format.specs.declared.layout.Counts.{Counts}
 use Rattle.compact.specs.Compact.{persons, links as most_links, graph_of, Compact}
 use Rattle.question.specs.Admission.{next}
 use Rattle.question.specs.declared.Question.{Question}
@@ -26,13 +24,12 @@ pub record Fillable (file : List ℕ) (starts targets : List ℕ) : Type 0 where
   pub people : People targets
 
 -- the same while a person's row is added: no more targets were written than there are links before the row
-pub record Appendable (file : List ℕ) (counts : Counts) (person start : ℕ) (targets : List ℕ) : Type 0 where
-  pub laid : Laid file counts
+pub record Appendable (file : List ℕ) (person start : ℕ) (targets : List ℕ) : Type 0 where
   pub faultless : file_fault file ≡ sound
   pub links : length targets ≡ most_links
   pub people : People targets
   pub within : start ≤ most_links
-  pub room : person < counts.persons → start ≤ row file person
+  pub room : person < person_count file → start ≤ row file person
 
 -- behind the targets that were there stand those of the person's row
 pub record Appended (file : List ℕ) (q : Question) (person start end : ℕ) (before after : List ℕ) : Type 0 where

@@ -7,26 +7,21 @@ ghost use Rattle.question.specs.Asked.{ends_fault, pair_fault, days_fit, terms_f
 use crate::{Question, Wanted};
 use format::links::LAST_DAY;
 use format::numbers;
-use refusals::Fault;
+use refusals::{Reason, Refusal, unless};
 use ways::HOPS;
 
 // The most hops, as wide as a question's numbers.
 const MOST: u32 = HOPS as u32;
 
 // From and To are persons of the file, From looked at first.
-fn ends_fault(persons: u32, question: Question) -> Fault
+fn ends_fault(persons: usize, question: Question) -> Result<(), Refusal>
     ensures { fault_said result ≡ ends_fault persons question sound }
 {
-    if persons <= question.from {
-        return Fault::At(10, 0);
-    }
-    if persons <= question.to {
-        return Fault::At(10, 1);
-    }
-    Fault::Sound
+    unless((question.from as usize) < persons, Reason::Person, 0)?;
+    unless((question.to as usize) < persons, Reason::Person, 1)
 }
 
-// The days of the question make a window.
+// The days of the question make a window. Three tests and no range: two of them are of different days.
 #[tactic(auto, unfolding(crate::specs::Asked::days_fit))]
 fn days_fit(question: Question) -> bool
     ensures { result ≡ days_fit question }
@@ -35,76 +30,52 @@ fn days_fit(question: Question) -> bool
 }
 
 // From and To are two persons for chains, and one for rings.
-fn pair_fault(question: Question, wanted: Wanted) -> Fault
+fn pair_fault(question: Question, wanted: Wanted) -> Result<(), Refusal>
     ensures { fault_said result ≡ pair_fault wanted question }
 {
+    let same = question.from == question.to;
     match wanted {
-        Wanted::Chains => {
-            if question.from == question.to {
-                return Fault::At(11, 0);
-            }
-        }
-        Wanted::Rings => {
-            if question.from != question.to {
-                return Fault::At(21, 0);
-            }
-        }
+        Wanted::Chains => unless(!same, Reason::OnePerson, 0),
+        Wanted::Rings => unless(same, Reason::TwoPersons, 0),
     }
-    Fault::Sound
 }
 
 // 12 to 15, then 20: what a question may ask, whatever the file.
 #[tactic(auto, unfolding(crate::specs::Asked::terms_fault))]
-fn terms_fault(question: Question) -> Fault
+fn terms_fault(question: Question) -> Result<(), Refusal>
     ensures { fault_said result ≡ terms_fault question }
 {
-    if !numbers::within(1, MOST, question.hops) {
-        return Fault::At(12, 0);
-    }
-    if !numbers::within(1, 15, question.classes) {
-        return Fault::At(13, 0);
-    }
-    if !numbers::within(1, 2, question.meaning) {
-        return Fault::At(14, 0);
-    }
-    if !days_fit(question) {
-        return Fault::At(15, 0);
-    }
-    if !numbers::within(0, 1, question.undated) {
-        return Fault::At(20, 0);
-    }
-    Fault::Sound
+    unless(numbers::within(1, MOST, question.hops), Reason::Hops, 0)?;
+    unless(numbers::within(1, 15, question.classes), Reason::Classes, 0)?;
+    unless(numbers::within(1, 2, question.meaning), Reason::Meaning, 0)?;
+    unless(days_fit(question), Reason::Window, 0)?;
+    unless(numbers::within(0, 1, question.undated), Reason::Undated, 0)
 }
 
 // 11 or 21, then the terms.
-fn rest_fault(question: Question, wanted: Wanted) -> Fault
+#[tactic(auto, unfolding(crate::specs::Asked::rest_fault))]
+fn rest_fault(question: Question, wanted: Wanted) -> Result<(), Refusal>
     ensures { fault_said result ≡ rest_fault wanted question }
 {
-    if let Fault::At(number, place) = pair_fault(question, wanted) {
-        return Fault::At(number, place);
-    }
+    pair_fault(question, wanted)?;
     terms_fault(question)
 }
 
 // The first fault of a question to a file of so many persons.
-pub fn question_fault(persons: u32, question: Question, wanted: Wanted) -> Fault
+#[tactic(auto, using(crate::proofs::Refused::ends_first), unfolding(crate::specs::Asked::question_fault))]
+pub fn question_fault(persons: usize, question: Question, wanted: Wanted) -> Result<(), Refusal>
     ensures { fault_said result ≡ question_fault wanted persons question }
 {
-    if let Fault::At(number, place) = ends_fault(persons, question) {
-        return Fault::At(number, place);
-    }
+    ends_fault(persons, question)?;
     rest_fault(question, wanted)
 }
 
 // The same where the question names one person more, who is looked at after From and To.
-pub fn person_fault(persons: u32, question: Question, person: u32) -> Fault
+#[tactic(auto, using(crate::proofs::Refused::ends_first), unfolding(crate::specs::Asked::person_fault))]
+pub fn person_fault(persons: usize, question: Question, person: u32) -> Result<(), Refusal>
     ensures { fault_said result ≡ person_fault persons question person }
 {
-    if let Fault::At(number, place) = ends_fault(persons, question) {
-        return Fault::At(number, place);
-    }
-    if persons <= person {
-        return Fault::At(10, 2);
-    }
+    ends_fault(persons, question)?;
+    unless((person as usize) < persons, Reason::Person, 2)?;
     rest_fault(question, Wanted::Chains)
 }

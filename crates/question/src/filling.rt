@@ -3,34 +3,31 @@ ghost use Rattle.question.specs.Filled.{Fillable, Filled, Appendable, Appended};
 
 use crate::{Question, admission};
 use compact::PERSONS;
-use format::layout::Counts;
-use format::{header, links, rows};
+use format::file::LinkFile;
+use format::header;
 
 // Writes the persons that a person's admitted links lead to, from the cell `start` on. Answers the cell behind the last of them.
 fn append(
-    file: &[u8],
-    counts: Counts,
+    file: LinkFile<'_>,
     question: Question,
     person: usize,
     start: usize,
     targets: &mut [u16],
 ) -> usize
-    requires { Appendable file.now counts person start targets.old }
-    ensures { Appended file.now question person start result targets.old targets.new }
+    requires { Appendable file.bytes.now person start targets.old }
+    ensures { Appended file.entry.bytes.now question person start result targets.old targets.new }
 {
-    if counts.persons <= person {
+    if file.counts.persons <= person {
         return start;
     }
-    let stop = rows::entry(file, counts, person + 1);
-    let mut number = rows::entry(file, counts, person);
+    let first = file.entry(person);
+    let stop = file.entry(person + 1);
     let mut end = start;
-    while number < stop {
-        if admission::admits(file, counts, question, number) {
-            let link = links::link_in(file, counts, number);
-            targets[end] = link.target as u16;
+    for number in first..stop {
+        if admission::admits(file, question, number) {
+            targets[end] = file.link(number).target as u16;
             end += 1;
         }
-        number += 1;
     }
     end
 }
@@ -41,13 +38,14 @@ pub fn fill(file: &[u8], question: Question, starts: &mut [u16], targets: &mut [
     requires { Fillable file.now starts.old targets.old }
     ensures { Filled file.now question starts.new targets.new }
 {
-    let counts = header::counts(file);
-    let mut person = 0;
+    let laid = LinkFile {
+        bytes: file,
+        counts: header::counts(file),
+    };
     let mut end = 0;
     starts[0] = 0;
-    while person < PERSONS {
-        end = append(file, counts, question, person, end, targets);
-        person += 1;
-        starts[person] = end as u16;
+    for person in 0..PERSONS {
+        end = append(laid, question, person, end, targets);
+        starts[person + 1] = end as u16;
     }
 }

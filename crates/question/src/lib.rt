@@ -14,11 +14,11 @@ ghost use Rattle.std.specs.Prelude.{◌≡◌};
 ghost use Rattle.refusals.specs.Faults.{fault_said};
 ghost use Rattle.question.specs.Asked.{asked_for, asked_of_fault, asked_for_room};
 
-use checking::Verdict;
-use refusals::Fault;
+use refusals::{Reason, Refusal, unless};
 use ways::RECORD;
 
 // From, to, hops, classes, date meaning, first day, last day, and whether undated links count: 1 they do, 0 they are left out.
+// They are numbers, as whoever calls from C sends them: 12 to 15 and 20 refuse any number that is none of a question.
 #[derive(Clone, Copy)]
 pub struct Question {
     pub from: u32,
@@ -39,42 +39,32 @@ pub enum Wanted {
 }
 
 // The first refusal of any bytes and any question: the file's own, 1 to 9, then the question's, 10 to 15 and 20, for rings 21 in 11's place.
-fn asked(file: &[u8], question: Question, wanted: Wanted) -> Fault
+#[tactic(auto, using(checking::proofs::Passed::passed_verdict, checking::proofs::Passed::refused_verdict))]
+fn asked(file: &[u8], question: Question, wanted: Wanted) -> Result<(), Refusal>
     ensures { fault_said result ≡ asked_for wanted file.now question }
 {
-    match checking::check(file) {
-        Verdict::Refused { number, place } => Fault::At(number, place),
-        Verdict::Passed {
-            persons,
-            links: _,
-            feeds: _,
-        } => faults::question_fault(persons, question, wanted),
-    }
+    let counts = checking::check(file)?;
+    faults::question_fault(counts.persons, question, wanted)
 }
 
 // The same where the question names one person more, as fewest hops does.
-pub fn asked_of(file: &[u8], question: Question, person: u32) -> Fault
+#[tactic(auto, using(checking::proofs::Passed::passed_verdict, checking::proofs::Passed::refused_verdict))]
+pub fn asked_of(file: &[u8], question: Question, person: u32) -> Result<(), Refusal>
     ensures { fault_said result ≡ asked_of_fault file.now question person }
 {
-    match checking::check(file) {
-        Verdict::Refused { number, place } => Fault::At(number, place),
-        Verdict::Passed {
-            persons,
-            links: _,
-            feeds: _,
-        } => faults::person_fault(persons, question, person),
-    }
+    let counts = checking::check(file)?;
+    faults::person_fault(counts.persons, question, person)
 }
 
 // The same as `asked`, and then 16: so many output cells have to hold a record.
-pub fn asked_room(file: &[u8], question: Question, wanted: Wanted, cells: usize) -> Fault
+pub fn asked_room(
+    file: &[u8],
+    question: Question,
+    wanted: Wanted,
+    cells: usize,
+) -> Result<(), Refusal>
     ensures { fault_said result ≡ asked_for_room wanted file.now question cells }
 {
-    if let Fault::At(number, place) = asked(file, question, wanted) {
-        return Fault::At(number, place);
-    }
-    if cells < RECORD {
-        return Fault::At(16, 0);
-    }
-    Fault::Sound
+    asked(file, question, wanted)?;
+    unless(RECORD <= cells, Reason::Output, 0)
 }

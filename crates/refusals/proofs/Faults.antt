@@ -1,12 +1,15 @@
 -- The first fault of several looks: one look more, and what it means that there is none.
-use mathlib.Core.Path.{◌≡◌, refl, sym, ◌∙◌}
+use mathlib.Core.Path.{◌≡◌, refl, sym, ap, ◌∙◌}
 use mathlib.Core.Bool.{Bool, true, false}
 use Prim.Native.Nat.{ℕ, zero, suc, ◌+◌, ◌-◌, ◌<◌, ◌≤◌}
 use native.Mathlib.Numerals.{add-one}
 use native.Mathlib.Decide.{ℕ_discrete}
 use native.Mathlib.Omega.{arith}
+use Rattle.refusals.specs.Reasons.{number_of}
 use Rattle.refusals.specs.Faults.{Fault, sound, fault, fault_said, unless, first_of, first_among}
-use Rattle.refusals.specs.declared.Fault as code
+use Rattle.std.specs.Prelude.{Result, Ok, Err}
+use Rattle.refusals.specs.declared.Refusal.{Refusal}
+use Rattle.refusals.proofs.Reasons.{refusal_same}
 
 -- what is still to be looked at, from `at` up to `end`, decides the whole
 pub record Looking (look : ℕ → Fault) (whole : Fault) (at end : ℕ) : Type 0 where
@@ -60,8 +63,10 @@ first_none look from (suc count) at e low high = go (look from) refl e (ℕ_disc
         never h = let z : ◌≡◌ {A = ℕ} 0 1 = cc in omega arith
 
 -- one result only: what a look says tells what it found, so a promise that says it allows one
-pub fault_said_lem : (a b : code.Fault) → fault_said a ≡ fault_said b → a ≡ b
-fault_said_lem code.TheVariants.Sound code.TheVariants.Sound e = refl
-fault_said_lem (code.TheVariants.At number place) (code.TheVariants.At other there) e = cc
-fault_said_lem code.TheVariants.Sound (code.TheVariants.At number place) e = let z : ◌≡◌ {A = ℕ} 0 1 = cc in absurd (omega arith)
-fault_said_lem (code.TheVariants.At number place) code.TheVariants.Sound e = let z : ◌≡◌ {A = ℕ} 0 1 = cc in absurd (omega arith)
+pub fault_said_lem : (a b : Result (Unit {0}) Refusal) → fault_said a ≡ fault_said b → a ≡ b
+fault_said_lem (Ok one) (Ok other) e = refl
+fault_said_lem (Err one) (Err other) e =
+    let number : number_of one.reason ≡ number_of other.reason = cc in
+    let place : one.place ≡ other.place = cc in ap (λ (r : Refusal). Err r) (refusal_same one other number place)
+fault_said_lem (Ok nothing) (Err refusal) e = let z : ◌≡◌ {A = ℕ} 0 1 = cc in absurd (omega arith)
+fault_said_lem (Err refusal) (Ok nothing) e = let z : ◌≡◌ {A = ℕ} 0 1 = cc in absurd (omega arith)

@@ -42,16 +42,23 @@ numbered_among numbers look from zero h = tt
 numbered_among numbers look from (suc count) h =
     numbered_first numbers (look from) (first_among look (suc from) count) (h from (omega arith)) (numbered_among numbers look (suc from) count (λ at below. h at (omega arith)))
 
--- none of these numbers is above a bound
-abbrev pub up_to : ℕ → List ℕ → Bool
-up_to bound [] = true
-up_to bound (number ∷ numbers) = cond (leb number bound) (up_to bound numbers) false
+-- each of these numbers passes a test
+abbrev pub all_pass : (ℕ → Bool) → List ℕ → Bool
+all_pass test [] = true
+all_pass test (number ∷ numbers) = cond (test number) (all_pass test numbers) false
 
-pub up_to_bounds : (bound : ℕ) (numbers : List ℕ) → up_to bound numbers ≡ true → {number : ℕ} → number ∈ numbers → number ≤ bound
-up_to_bounds bound [] h {number = number} m = elim m [ ]
-up_to_bounds bound (x ∷ numbers) h {number} m = go (leb x bound) refl h m (λ r i. up_to_bounds bound numbers r i)
+pub passes_each : (test : ℕ → Bool) (numbers : List ℕ) → all_pass test numbers ≡ true → {number : ℕ} → number ∈ numbers → test number ≡ true
+passes_each test [] h {number = number} m = elim m [ ]
+passes_each test (x ∷ numbers) h {number} m = go (test x) refl h m (λ r i. passes_each test numbers r i)
   where
-    go : (fits : Bool) → leb x bound ≡ fits → cond fits (up_to bound numbers) false ≡ true → number ∈ x ∷ numbers → (up_to bound numbers ≡ true → number ∈ numbers → number ≤ bound) → number ≤ bound
-    go true e h (Memᴰ.head same) on = omega (arith, leb-true x bound e, same)
+    go : (fits : Bool) → test x ≡ fits → cond fits (all_pass test numbers) false ≡ true → number ∈ x ∷ numbers → (all_pass test numbers ≡ true → number ∈ numbers → test number ≡ true) → test number ≡ true
+    go true e h (Memᴰ.head same) on = rw same e
     go true e h (Memᴰ.tail i) on = on h i
     go false e h m on = absurd (false≢true h)
+
+-- none of these numbers is above a bound
+abbrev pub up_to : ℕ → List ℕ → Bool
+up_to bound numbers = all_pass (λ number. leb number bound) numbers
+
+pub up_to_bounds : (bound : ℕ) (numbers : List ℕ) → up_to bound numbers ≡ true → {number : ℕ} → number ∈ numbers → number ≤ bound
+up_to_bounds bound numbers h {number} m = leb-true number bound (passes_each (λ n. leb n bound) numbers h m)

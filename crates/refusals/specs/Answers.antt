@@ -1,19 +1,25 @@
 -- What an operation that lists answers. Definitions only.
-use Rattle.std.specs.Prelude.{Bool, List, ℕ, leb}
+use Rattle.std.specs.Prelude.{Bool, List, ℕ, leb, Result, Ok, Err}
 use Rattle.ways.specs.Records.{written}
 use Rattle.ways.specs.Sizes.{record_size}
 use Rattle.refusals.specs.Faults.{Fault, sound, fault, unless, lent}
-use Rattle.refusals.specs.declared.Answer as code
+use Rattle.refusals.specs.Reasons.{number_of}
+use Rattle.refusals.specs.declared.Listed.{Listed}
+use Rattle.refusals.specs.declared.Refusal.{Refusal}
 
 -- "The answer is one of two cases, listed or refused": how many and whether the listing has ended, or number and place
 pub data Answer : Type 0 where
   listed : ℕ → Bool → Answer
   refused : ℕ → ℕ → Answer
 
--- what the code's enum says, in these words
-abbrev pub answer_said : code.Answer → Answer
-answer_said (code.TheVariants.Listed count ended) = listed count ended
-answer_said (code.TheVariants.Refused number place) = refused number place
+-- the code's answer, which is the library's `Result`
+abbrev pub Told : Type 0
+Told = Result Listed Refusal
+
+-- what it says, in these words
+abbrev pub answer_said : Told → Answer
+answer_said (Ok told) = listed told.count told.ended
+answer_said (Err refusal) = refused (number_of refusal.reason) refusal.place
 
 -- the answer where this is the first fault
 abbrev pub answer_for : Fault → ℕ → Bool → Answer

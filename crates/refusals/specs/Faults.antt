@@ -1,17 +1,22 @@
 -- Faults, and looks laid one behind the other: the first that finds one decides. Definitions only.
-use Rattle.std.specs.Prelude.{Bool, true, false, List, ℕ, zero, suc, ◌^◌, ◌<◌}
+use Rattle.std.specs.Prelude.{Bool, true, false, List, ℕ, zero, suc, ◌^◌, ◌<◌, Result, Ok, Err}
 use Rattle.ways.specs.Graph.{◌∈◌}
-use Rattle.refusals.specs.declared.Fault as code
+use Rattle.refusals.specs.Reasons.{number_of}
+use Rattle.refusals.specs.declared.Refusal.{Refusal}
 
 -- a fault has the number of its refusal and its place
 pub data Fault : Type 0 where
   sound : Fault
   fault : ℕ → ℕ → Fault
 
--- what the code's enum says, in these words
-abbrev pub fault_said : code.Fault → Fault
-fault_said code.TheVariants.Sound = sound
-fault_said (code.TheVariants.At number place) = fault number place
+-- what a refusal says, in these words
+abbrev pub refusal_said : Refusal → Fault
+refusal_said refusal = fault (number_of refusal.reason) refusal.place
+
+-- what the code's look says, in these words
+abbrev pub fault_said : Result (Unit {0}) Refusal → Fault
+fault_said (Ok nothing) = sound
+fault_said (Err refusal) = refusal_said refusal
 
 -- unless the rule holds there is this fault; what is looked at afterwards decides else
 abbrev pub unless : Bool → ℕ → ℕ → Fault → Fault

@@ -1,8 +1,8 @@
 -- The rings that a file and a question list, and the promise of a portion of them: the second instance of a listing (listing, specs/).
 -- "Portions, bookmarks and order are those of the chain listing". Definitions only.
+use Rattle.refusals.specs.Answers.{Told}
 use Rattle.std.specs.Prelude.{List, Bool, ℕ}
 use Rattle.refusals.specs.Faults.{Fault}
-use Rattle.refusals.specs.declared.Answer as code
 use Rattle.ways.specs.Ring.{rings}
 use Rattle.question.specs.declared.Question.{Question}
 use Rattle.question.specs.Asked.{rings_asked_fault, rings_asked_numbers}
@@ -29,5 +29,5 @@ abbrev pub rings_ended : List ℕ → Question → Start → List ℕ → Bool
 rings_ended file q start out = ended_of (rings_for file q) start out
 
 -- rings: the answer, and the output at exit
-abbrev pub RingsPortioned : List ℕ → Question → Start → List ℕ → List ℕ → code.Answer → Type 0
+abbrev pub RingsPortioned : List ℕ → Question → Start → List ℕ → List ℕ → Told → Type 0
 RingsPortioned file q start out out' answer = PortionOf (rings_asked_fault file q) (rings_for file q) start out out' answer

@@ -5,30 +5,16 @@
 // It is the second instance of `listing`: what holds of portions of any listing holds of the rings, by the same laws.
 #![tactic(auto)]
 
-ghost use Rattle.listing.specs.Portions.{start_said};
+ghost use Rattle.listing.specs.Portions.{start_given};
 ghost use Rattle.rings.specs.Rings.{RingsPortioned};
 
 use question::{Question, Wanted};
-use refusals::{Answer, Fault};
+use refusals::Answer;
 
 // Writes the first rings after the bookmark to the output, as records from cell 0 on, as many as it has room for, and answers how
-// many and whether the listing has ended. With `started` 0 it starts afresh, and the bookmark isn't looked at.
-pub fn rings(
-    file: &[u8],
-    question: Question,
-    started: u32,
-    bookmark: &[u32],
-    out: &mut [u32],
-) -> Answer
-    ensures { RingsPortioned file.now question (start_said started bookmark.now) out.old out.new result }
+// many and whether the listing has ended. Without a bookmark it starts afresh.
+pub fn rings(file: &[u8], question: Question, start: Option<&[u32]>, out: &mut [u32]) -> Answer
+    ensures { RingsPortioned file.now question (start_given start.entry) out.old out.new result }
 {
-    if let Fault::At(number, place) = question::asked_room(
-        file,
-        question,
-        Wanted::Rings,
-        out.len(),
-    ) {
-        return Answer::Refused { number, place };
-    }
-    starting::list(file, question, started, bookmark, out)
+    starting::answer(file, question, Wanted::Rings, start, out)
 }

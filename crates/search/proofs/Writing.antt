@@ -1,17 +1,18 @@
 -- Handing over a chain of the search: its record is set where it lies.
 use mathlib.Core.Path.{◌≡◌, refl, sym, ap, ◌∙◌}
+use mathlib.Core.Bool.{false}
 use mathlib.Core.List.{List, [], ◌∷◌}
 use Prim.Native.Nat.{ℕ, ◌+◌, ◌-◌, ◌*◌, ◌≤◌, ◌<◌}
 use lib.ListN.{length, set, length-set}
 use lib.Seq.{paste, set-set, set_comm}
 use native.Mathlib.Omega.{arith}
 use native.Mathlib.Nat.{add-zero}
-use borrow.Author.Tests.{eq-eqb, lt-ltb, le-ltb}
+use borrow.Author.Tests.{lt-ltb}
 use Rattle.ways.specs.Sizes.{record_size}
 use Rattle.pages.specs.Pages.{record_with}
 use Rattle.pages.proofs.Copying.{paste_set}
 use Rattle.search.specs.HandingOver.{Room, Handed}
-use Rattle.search.specs.declared.places.Findings.{Findings}
+use Rattle.search.specs.declared.walk.Walk.{Walk}
 
 -- ---- `hand_over`
 
@@ -26,18 +27,15 @@ set_record out chain at a b x y z fits long ha hb =
     ∙ ap (λ (o : List ℕ). set o (at + b) z) (paste_set out at (set chain 0 x) record_size a y (omega arith) (omega arith) ha)
     ∙ paste_set out at (set (set chain 0 x) a y) record_size b z (omega arith) (omega arith) hb
 
-module _ {out chain : List ℕ} {room len hops : ℕ} {found : Findings} (k : Room out chain room len hops found) where
-  pub hand_full : {to v : ℕ} → room ≤ found.count → Handed out out chain to room len v hops found (record { count = found.count; more = 1; trail = found.trail })
-  hand_full h = record { trail = refl; right = rw (eq-eqb found.more 0 k.none, le-ltb found.count room h) }
-
-  pub hand_fits : found.count < room → found.count * record_size + record_size ≤ length out
+module _ {walk : Walk} {out : List ℕ} {len hops : ℕ} (k : Room walk out len hops) where
+  pub hand_fits : walk.count < walk.ask.room → walk.count * record_size + record_size ≤ length out
   hand_fits h = omega (arith, k.cells)
 
-  pub hand_put : {to v : ℕ} {out' : List ℕ} → found.count < room → out' ≡ paste out (found.count * record_size) chain record_size
-      → Handed out (set (set (set out' (found.count * record_size) hops) (found.count * record_size + (len + 1)) v) (found.count * record_size + (hops + 1)) to) chain to room len v hops found (record { count = found.count + 1; more = 0; trail = found.trail })
-  hand_put {to} {v} {out'} h e = record {
-    trail = refl;
-    right = rw (eq-eqb found.more 0 k.none, lt-ltb found.count room h, e, set_record out chain (found.count * record_size) (len + 1) (hops + 1) hops v to (hand_fits h) k.long (omega (arith, k.behind, k.short)) (omega (arith, k.short)));
+  pub hand_put : {v : ℕ} {out' : List ℕ} → walk.count < walk.ask.room → out' ≡ paste out (walk.count * record_size) walk.chain record_size
+      → Handed walk (record walk { count = walk.count + 1 }) out (set (set (set out' (walk.count * record_size) hops) (walk.count * record_size + (len + 1)) v) (walk.count * record_size + (hops + 1)) walk.ask.to) len v hops false
+  hand_put {v} {out'} h e = record {
+    rest = refl;
+    right = rw (lt-ltb walk.count walk.ask.room h, e, set_record out walk.chain (walk.count * record_size) (len + 1) (hops + 1) hops v walk.ask.to (hand_fits h) k.long (omega (arith, k.behind, k.short)) (omega (arith, k.short)));
   }
 
 -- the record of the chain with To behind it, and with v and To behind it

@@ -1,16 +1,7 @@
--- Where a search stands. Definitions only.
-use Rattle.std.specs.Prelude.{ℕ}
-use Rattle.search.specs.declared.places.Ask.{Ask}
-use Rattle.search.specs.declared.places.Stand.{Stand}
+-- What a search starts behind. Definitions only.
+use Rattle.std.specs.Prelude.{Option, List, ℕ}
+use Rattle.std.specs.Borrow.{Bor}
 
--- whom the chains lead to; whether the bookmark is left (0); the records that there is room for; the persons in the chain
--- so far; the hops still allowed
-pub record Place : Type 0 where
-  pub to : ℕ
-  pub tight : ℕ
-  pub room : ℕ
-  pub len : ℕ
-  pub left : ℕ
-
-abbrev pub place_of : Ask → Stand → ℕ → Place
-place_of a w tight = record { to = a.to; tight = tight; room = a.room; len = w.len; left = w.left }
+-- the bookmark, while the chain is its beginning: none once the chain has left it, and in a fresh start
+abbrev pub Bookmark : Type 0
+Bookmark = Option (Bor (List ℕ))

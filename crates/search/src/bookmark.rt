@@ -1,24 +1,24 @@
 // After a bookmark: while the chain is the bookmark's own beginning, what stands before it is skipped.
-ghost use Rattle.search.specs.Places.{place_of};
-ghost use Rattle.search.specs.Bookmarks.{Tight, Beside};
+ghost use Rattle.std.specs.Prelude.{◌≡◌};
+ghost use Rattle.search.specs.Bookmarks.{kept, Tight, Beside};
 
-use crate::places::{Ask, Stand};
+use std::cmp::Ordering;
 
-// Where v stands to the bookmark's next person: 2 before that person, 1 the same, 0 behind, or the bookmark is left already.
-pub fn beside(bookmark: &[u32], ask: Ask, stand: Stand, tight: u32, v: u32) -> u32
-    requires { Tight bookmark.now (place_of ask stand tight) }
-    ensures { Beside bookmark.now (place_of ask stand tight) v result }
+// Where v stands to the bookmark's next person, behind `len` persons: before, the same, or behind. Once the bookmark is left, and in a
+// fresh start, everybody stands behind.
+pub fn beside(tight: Option<&[u32]>, len: usize, v: u32) -> Ordering
+    requires { Tight tight len }
+    ensures { Beside tight.entry len v result }
 {
-    if tight == 0 {
-        return 0;
-    }
-    let at = stand.len + 1;
-    let next = bookmark[at];
-    if v < next {
-        return 2;
-    }
-    if v == next {
-        return 1;
-    }
-    0
+    let Some(bookmark) = tight else {
+        return Ordering::Greater;
+    };
+    v.cmp(&bookmark[len + 1])
+}
+
+// The bookmark, as long as the chain is its beginning: behind a person on that side of it.
+pub fn keep(tight: Option<&[u32]>, side: Ordering) -> Option<&[u32]>
+    ensures { result ≡ kept tight.entry side }
+{
+    if side.is_eq() { tight } else { None }
 }

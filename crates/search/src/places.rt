@@ -1,5 +1,4 @@
-// Where a search stands, in numbers: the types that its functions hand to each other.
-// They go in small structs with no bool among them: a struct of two numbers goes in registers.
+// What a search is asked, and where it stands, in numbers: a struct of two numbers goes in registers.
 use compact::PERSONS;
 use ways::HOPS;
 
@@ -18,13 +17,4 @@ pub struct Ask {
 pub struct Stand {
     pub len: usize,
     pub left: usize,
-}
-
-// What the search has to show: so many records written, whether there is one more than there is room for (1), and how many entries
-// the trail has.
-#[derive(Clone, Copy)]
-pub struct Findings {
-    pub count: usize,
-    pub more: usize,
-    pub trail: usize,
 }

@@ -1,39 +1,28 @@
-// Handing over a chain: its record is written to the output, or it is the one more for which there is no room.
+// Handing over a chain: its record is written to the output, or it is the one more for which there is no room. `traces` hands over likewise, what
+// is only counted too, with a right half behind: what both share is in `pages`.
 ghost use Rattle.search.specs.HandingOver.{Room, Handed};
 
-use crate::places::{Ask, Findings, Stand};
+use crate::walk::Walk;
 use ways::RECORD;
 
-// Hands over the chain so far with v behind it and To at its end, which may be v: `hops` hops in all.
-// The chain is copied first, and the last cells are set where they lie: a copy of what was just stored is slow.
-pub fn hand_over(
-    out: &mut [u32],
-    chain: [u32; RECORD],
-    ask: Ask,
-    stand: Stand,
-    v: u32,
-    hops: usize,
-    found: Findings,
-) -> Findings
-    requires { Room out.old chain ask.room stand.len hops found }
-    ensures { Handed out.old out.new chain ask.to ask.room stand.len v hops found result }
-{
-    let count = found.count;
-    if count >= ask.room {
-        return Findings {
-            count: count,
-            more: 1,
-            trail: found.trail,
-        };
-    }
-    let at = count * RECORD;
-    pages::put(out, at, chain);
-    out[at] = hops as u32;
-    out[at + (stand.len + 1)] = v;
-    out[at + (hops + 1)] = ask.to;
-    Findings {
-        count: count + 1,
-        more: 0,
-        trail: found.trail,
+impl Walk<'_> {
+    // Hands over the first `len` persons of the chain with v behind them and To at the end, which may be v: `hops` hops in all. Returns
+    // whether this is one more than there is room for.
+    // The chain is copied first, and the last cells are set where they lie: a copy of what was just stored is slow.
+    pub fn hand_over(&mut self, out: &mut [u32], len: usize, v: u32, hops: usize) -> bool
+        requires { Room self.old out.old len hops }
+        ensures { Handed self.old self.new out.old out.new len v hops result }
+    {
+        let count = self.count;
+        if count >= self.ask.room {
+            return true;
+        }
+        let at = count * RECORD;
+        pages::put(out, at, &self.chain);
+        out[at] = hops as u32;
+        out[at + (len + 1)] = v;
+        out[at + (hops + 1)] = self.ask.to;
+        self.count = count + 1;
+        false
     }
 }

@@ -1,51 +1,51 @@
 -- Going through cells one by one: what is still to come decides the whole.
-use mathlib.Core.Path.{◌≡◌, ◌∙◌}
-use mathlib.Core.Bool.{true, false, not, ◌&&◌, ◌||◌}
+use mathlib.Core.Path.{◌≡◌, refl, ap, ◌∙◌}
+use mathlib.Core.Bool.{Bool, not, ◌&&◌, ◌||◌}
 use mathlib.Core.List.{List, [], ◌∷◌}
-use Prim.Native.Nat.{ℕ, suc, ◌+◌, ◌≤◌, ◌<◌}
+use Prim.Native.Nat.{ℕ, suc, ◌+◌, ◌-◌, ◌≤◌, ◌<◌}
 use native.Mathlib.Numerals.{add-one}
 use native.Mathlib.Omega.{arith}
-use lib.ListN.{length, get_or, drop}
-use lib.Seq.{slice, slice_empty, slice-cons, drop-cons, drop-length}
+use lib.ListN.{length, get_or, take, drop, length-drop, drop_of_length-le}
+use lib.Seq.{drop-cons, take_all}
 use lib.Dec.{eqb}
-use borrow.Author.Tests.{eq-eqb, ne_eqb}
+use Rattle.std.specs.List.{list_all, list_any}
 use Rattle.ways.specs.Graph.{Graph, among}
+use Rattle.cells.proofs.Seeking.{contains_among}
 use Rattle.starting.specs.Bookmark.{runs, leads_on, zeros}
 
--- the persons run on from `at` to `last`
-module _ (g : Graph) (t : ℕ) (cells : List ℕ) (last : ℕ) (fits : last < length cells) where
-  pub run_on : (at : ℕ) → at < last
-      → runs g t (slice at (last + 1) cells) ≡ (among (get_or cells (at + 1) 0) (g (get_or cells at 0)) && not (among (get_or cells at 0) (slice (at + 1) (last + 1) cells)) && runs g t (slice (at + 1) (last + 1) cells))
+-- what is behind a place, as the library takes it
+pub behind_all : (at : ℕ) (cells : List ℕ) → take (length cells - at) (drop at cells) ≡ drop at cells
+behind_all at cells = take_all (length cells - at) (drop at cells) (omega (arith, length-drop at cells))
+
+-- whether a person is among them, as the library asks it
+abbrev pub holds : ℕ → List ℕ → Bool
+holds person cells = list_any (λ (c : ℕ). eqb c person) cells
+
+module _ (g : Graph) (t : ℕ) (way : List ℕ) where
+  -- the persons run on from `at` to the last
+  pub run_on : (at : ℕ) → at + 1 < length way
+      → runs g t (drop at way) ≡ (among (get_or way (at + 1) 0) (g (get_or way at 0)) && not (holds (get_or way at 0) (drop (at + 1) way)) && runs g t (drop (at + 1) way))
   unfolding runs
   run_on at h =
-      let next : slice (at + 1) (last + 1) cells ≡ get_or cells (at + 1) 0 ∷ slice (suc (at + 1)) (last + 1) cells = slice-cons (at + 1) (last + 1) cells 0 (omega arith) (omega arith) in
-      let here : slice at (last + 1) cells ≡ get_or cells at 0 ∷ slice (at + 1) (last + 1) cells = slice-cons at (last + 1) cells 0 (omega arith) (omega arith) ∙ rw (add-one at) in
-      rw (here, next)
+      let next : drop (at + 1) way ≡ get_or way (at + 1) 0 ∷ drop (suc (at + 1)) way = drop-cons way (at + 1) 0 h in
+      let here : drop at way ≡ get_or way at 0 ∷ drop (at + 1) way = drop-cons way at 0 (omega arith) ∙ rw (add-one at) in
+      rw (contains_among (get_or way at 0) (drop (at + 1) way), here, next)
 
-  pub run_last : runs g t (slice last (last + 1) cells) ≡ eqb (get_or cells last 0) t
+  pub run_last : (last : ℕ) → last + 1 ≡ length way → runs g t (drop last way) ≡ eqb (get_or way last 0) t
   unfolding runs
-  run_last =
-      let here : slice last (last + 1) cells ≡ get_or cells last 0 ∷ [] = slice-cons last (last + 1) cells 0 (omega arith) (omega arith) ∙ rw (add-one last, slice_empty (suc last) cells) in
+  run_last last e =
+      let none : drop (suc last) way ≡ [] = drop_of_length-le way {i = suc last} (omega arith) in
+      let here : drop last way ≡ get_or way last 0 ∷ [] = drop-cons way last 0 (omega arith) ∙ rw none in
       rw here
 
-  -- From leads on by them
-  pub on_cells : (s : ℕ) → 2 ≤ last
-      → leads_on g s t (slice 2 (last + 1) cells) ≡ (among (get_or cells 2 0) (g s) && (eqb s t || not (among s (slice 2 (last + 1) cells))) && runs g t (slice 2 (last + 1) cells))
-  unfolding leads_on
-  on_cells s h =
-      let here : slice 2 (last + 1) cells ≡ get_or cells 2 0 ∷ slice 3 (last + 1) cells = slice-cons 2 (last + 1) cells 0 (omega arith) (omega arith) in
-      rw here
+-- From leads on by them
+pub on_way : (g : Graph) (s t : ℕ) (way : List ℕ) → 1 ≤ length way → leads_on g s t way ≡ (among (get_or way 0 0) (g s) && (eqb s t || not (holds s way)) && runs g t way)
+unfolding leads_on
+on_way g s t [] h = absurd (omega arith)
+on_way g s t (p ∷ way) h = rw (contains_among s (p ∷ way)) refl
 
--- zeros from `at` on
-module _ (cells : List ℕ) where
-  pub zeros_on : (at : ℕ) → at < length cells → get_or cells at 0 ≡ 0 → zeros (drop at cells) ≡ zeros (drop (at + 1) cells)
-  unfolding zeros
-  zeros_on at h e = rw (drop-cons cells at 0 h, eq-eqb (get_or cells at 0) 0 e, add-one at)
-
-  pub zeros_stop : (at : ℕ) → at < length cells → (get_or cells at 0 ≡ 0 → ⊥) → zeros (drop at cells) ≡ false
-  unfolding zeros
-  zeros_stop at h n = rw (drop-cons cells at 0 h, ne_eqb (get_or cells at 0) 0 n)
-
-  pub zeros_end : (at : ℕ) → at ≡ length cells → zeros (drop at cells) ≡ true
-  unfolding zeros
-  zeros_end at e = rw (e, drop-length cells)
+-- there are zeros, where the library looks, and where the definition does
+pub all_zeros : (cells : List ℕ) → list_all (λ (c : ℕ). eqb c 0) cells ≡ zeros cells
+unfolding zeros
+all_zeros [] = refl
+all_zeros (c ∷ cells) = ap (λ (b : Bool). eqb c 0 && b) (all_zeros cells)

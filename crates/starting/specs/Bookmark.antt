@@ -1,11 +1,12 @@
 -- A bookmark as it is tested: cell by cell, with no listing. Definitions only.
 -- That the test says just whether the cells are the record of one that is listed, chain or ring, is the law `bookmark_is`.
-use Rattle.std.specs.Prelude.{List, [], ◌∷◌, Bool, true, false, ◌&&◌, ◌||◌, not, cond, ℕ, ◌+◌, length, get_or, drop, eqb}
+use Rattle.std.specs.Prelude.{List, [], ◌∷◌, Bool, true, false, ◌&&◌, ◌||◌, not, ℕ, ◌+◌, length, get_or, drop, eqb}
 use Rattle.std.proofs.Math.Seq.{slice}
 use Rattle.format.specs.Numbers.{within}
 use Rattle.ways.specs.Graph.{Graph, among}
 use Rattle.ways.specs.Sizes.{record_size}
 use Rattle.question.specs.declared.Question.{Question}
+use Rattle.listing.specs.Portions.{Start, fresh, bookmarked}
 
 -- from each person a link leads to the next, nobody comes again, and the last is To
 unfoldable pub runs : Graph → ℕ → List ℕ → Bool
@@ -33,5 +34,6 @@ is_bookmark size g s t k cells =
     && zeros (drop (get_or cells 0 0 + 2) cells)
 
 -- a portion may start afresh, or after a bookmark
-abbrev pub start_fits : Graph → Question → ℕ → List ℕ → Bool
-start_fits g q started cells = cond (eqb started 0) true (is_bookmark record_size g q.from q.to q.hops cells)
+abbrev pub start_fits : Graph → Question → Start → Bool
+start_fits g q fresh = true
+start_fits g q (bookmarked cells) = is_bookmark record_size g q.from q.to q.hops cells

@@ -1,131 +1,77 @@
 // Whether a bookmark is the record of a chain or, where From is To, of a ring, cell by cell.
-ghost use Rattle.std.specs.Prelude.{◌≡◌, ◌+◌, ◌≤◌, ◌<◌, length, drop};
-ghost use Rattle.std.proofs.Math.Seq.{slice};
+ghost use Rattle.std.specs.Prelude.{◌≡◌, ◌≤◌, length};
 ghost use Rattle.ways.specs.Graph.{among};
 ghost use Rattle.ways.specs.Sizes.{record_size, most_hops};
-ghost use Rattle.compact.specs.Compact.{graph_of, Compact};
+ghost use Rattle.compact.specs.Compact.{graph_of};
+ghost use Rattle.listing.specs.Portions.{start_given};
 ghost use Rattle.starting.specs.Bookmark.{runs, leads_on, zeros, is_bookmark, start_fits};
 
-use compact::{LINKS, PERSONS, STARTS};
+use compact::{Graph, PERSONS};
 use question::Question;
 use ways::RECORD;
 
-// Whether a link leads from a person to the next.
-fn leads(starts: &[u16; STARTS], targets: &[u16; LINKS], person: u32, next: u32) -> bool
-    requires { Compact starts.now targets.now }
-    ensures { result ≡ among next (graph_of starts.now targets.now person) }
+// Whether a link leads from a person to the next; whoever is no person has none.
+fn leads(graph: Graph<'_>, person: u32, next: u32) -> bool
+    ensures { result ≡ among next (graph_of graph.entry.starts.now graph.entry.targets.now person) }
 {
     let from = person as usize;
-    if PERSONS <= from {
-        return false;
-    }
-    let end = starts[from + 1] as usize;
-    let mut at = starts[from] as usize;
-    while at < end {
-        if targets[at] as u32 == next {
-            return true;
-        }
-        at += 1;
-    }
-    false
+    from < PERSONS
+        && graph
+            .next(from)
+            .iter()
+            .any(|target| u32::from(*target) == next)
 }
 
-// Whether the cells from 2 up to `last` run from person to person by links, nobody twice, to the end person.
-fn run(starts: &[u16; STARTS], targets: &[u16; LINKS], cells: &[u32], last: usize, to: u32) -> bool
-    requires { (Compact starts.now targets.now) × (2 ≤ last) × (last < length cells.now) }
-    ensures { result ≡ runs (graph_of starts.now targets.now) to (slice 2 (last + 1) cells.now) }
+// Whether the persons run on from one to the next by links, nobody twice, to the end person.
+fn run(graph: Graph<'_>, way: &[u32], to: u32) -> bool
+    requires { 1 ≤ length way.now }
+    ensures { result ≡ runs (graph_of graph.entry.starts.now graph.entry.targets.now) to way.now }
 {
-    let mut at = 2;
-    while at < last {
-        let person = cells[at];
-        if !leads(starts, targets, person, cells[at + 1])
-            || cells::stands(cells, at + 1, last + 1, person)
-        {
+    let last = way.len() - 1;
+    for at in 0..last {
+        let person = way[at];
+        if !leads(graph, person, way[at + 1]) || way[at + 1..].contains(&person) {
             return false;
         }
-        at += 1;
     }
-    cells[last] == to
+    way[last] == to
 }
 
-// Whether From leads on by the cells from 2 up to `last` to To, and comes again only where From is To.
-fn leads_on(
-    starts: &[u16; STARTS],
-    targets: &[u16; LINKS],
-    from: u32,
-    to: u32,
-    cells: &[u32],
-    last: usize,
-) -> bool
-    requires { (Compact starts.now targets.now) × (2 ≤ last) × (last < length cells.now) }
-    ensures { result ≡ leads_on (graph_of starts.now targets.now) from to (slice 2 (last + 1) cells.now) }
+// Whether From leads on by these persons to To, and comes again only where From is To.
+#[tactic(auto, using(crate::proofs::Cells::on_way))]
+fn leads_on(graph: Graph<'_>, from: u32, to: u32, way: &[u32]) -> bool
+    requires { 1 ≤ length way.now }
+    ensures { result ≡ leads_on (graph_of graph.entry.starts.now graph.entry.targets.now) from to way.now }
 {
-    if !leads(starts, targets, from, cells[2]) {
-        return false;
-    }
-    if from != to && cells::stands(cells, 2, last + 1, from) {
-        return false;
-    }
-    run(starts, targets, cells, last, to)
+    leads(graph, from, way[0]) && (from == to || !way.contains(&from)) && run(graph, way, to)
 }
 
-// Whether there is nothing but zeros from a cell on.
-fn blank(cells: &[u32], first: usize) -> bool
-    requires { first ≤ length cells.now }
-    ensures { result ≡ zeros (drop first cells.now) }
+// Whether there is nothing but zeros.
+fn blank(cells: &[u32]) -> bool
+    ensures { result ≡ zeros cells.now }
 {
-    let mut at = first;
-    while at < cells.len() {
-        if cells[at] != 0 {
-            return false;
-        }
-        at += 1;
-    }
-    true
+    cells.iter().all(|cell| *cell == 0)
 }
 
 // Whether the cells are the record of a chain from `from` to `to` of at most `hops` hops, or of a ring where these are one person.
-fn is_bookmark(
-    starts: &[u16; STARTS],
-    targets: &[u16; LINKS],
-    from: u32,
-    to: u32,
-    hops: u32,
-    cells: &[u32],
-) -> bool
-    requires { (Compact starts.now targets.now) × (hops ≤ most_hops) }
-    ensures { result ≡ is_bookmark record_size (graph_of starts.now targets.now) from to hops cells.now }
+fn is_bookmark(graph: Graph<'_>, from: u32, to: u32, hops: u32, cells: &[u32]) -> bool
+    requires { hops ≤ most_hops }
+    ensures { result ≡ is_bookmark record_size (graph_of graph.entry.starts.now graph.entry.targets.now) from to hops cells.now }
 {
-    if cells.len() != RECORD {
+    if cells.len() != RECORD || !format::numbers::within(1, hops, cells[0]) {
         return false;
     }
-    let last = cells[0] as usize + 1;
-    format::numbers::within(1, hops, cells[0])
-        && cells[1] == from
-        && leads_on(starts, targets, from, to, cells, last)
-        && blank(cells, last + 1)
+    let end = cells[0] as usize + 2;
+    cells[1] == from && leads_on(graph, from, to, &cells[2..end]) && blank(&cells[end..])
 }
 
 // Whether a portion may start here: a fresh start may, and a bookmark that is such a record.
-pub fn fits(
-    starts: &[u16; STARTS],
-    targets: &[u16; LINKS],
-    question: Question,
-    started: u32,
-    bookmark: &[u32],
-) -> bool
-    requires { (Compact starts.now targets.now) × (question.hops ≤ most_hops) }
-    ensures { result ≡ start_fits (graph_of starts.now targets.now) question started bookmark.now }
+pub fn fits(graph: Graph<'_>, question: Question, start: Option<&[u32]>) -> bool
+    requires { question.hops ≤ most_hops }
+    ensures { result ≡ start_fits (graph_of graph.entry.starts.now graph.entry.targets.now) question (start_given start.entry) }
 {
-    if started == 0 {
-        return true;
+    match start {
+        None => true,
+        Some(bookmark) => is_bookmark(graph, question.from, question.to, question.hops, bookmark),
     }
-    is_bookmark(
-        starts,
-        targets,
-        question.from,
-        question.to,
-        question.hops,
-        bookmark,
-    )
 }

@@ -6,12 +6,14 @@ use Prim.Native.Nat.{ℕ, zero, suc, ◌+◌, ◌-◌, ◌*◌, ◌/◌, ◌%◌
 use native.Mathlib.Omega.{arith}
 use native.Mathlib.Nat.{pow-suc, zero-add, not-le_of_lt, eq-zero-or-pos}
 use native.Mathlib.Numerals.{add-one}
-use lib.ListN.{length, get_or, take, drop, set, replicate, length-set, length-replicate, get_or-replicate}
-use lib.Seq.{take_all, take-suc-set, drop-set-lt, drop-cons, drop-length, get_or-set_same, get_or-set_other}
+use lib.ListN.{length, get_or, take, drop, set, replicate, length-append, length-set, length-replicate, get_or-append, get_or-replicate}
+use lib.Seq.{take_all, take-suc-set, get_or-append_seam, drop-set-lt, drop-cons, drop-length, get_or-set_same, get_or-set_other}
+use Rattle.std.proofs.Common.{Option, Some, None}
+use Rattle.std.specs.Option.{unwrap_or}
 use Rattle.ways.proofs.Cases.{same_or_not}
 use Rattle.text.specs.Decimal.{decimal, worth, digit_count, Digits}
 use Rattle.text.specs.Printed.{Printed}
-use Rattle.text.proofs.Printing.{Printing, starts, byte, done, same_bytes}
+use Rattle.text.proofs.Printing.{Printing, byte, done}
 use Rattle.text.proofs.Spelling.{decimal_one, worth_more}
 
 -- what digits are worth with so much above them
@@ -88,19 +90,28 @@ module _ {counted₀ : List ℕ} {more : ℕ} {counted : List ℕ} {carry i : �
       last e r = rw (e, take_all (length counted) counted (omega arith), drop-length counted, zero-add) at r
 
 -- ---- the first digit that is no zero
-pub record Seeking (counted : List ℕ) (i : ℕ) : Type 0 where
-  pub within : i < digit_count
-  pub zeros : worth (drop (i + 1) counted) ≡ 0
-
-pub seek_starts : {counted : List ℕ} → Digits counted → Seeking counted 39
+-- zeros from a place on are worth nothing
+zeros_worth : (counted : List ℕ) (n i : ℕ) → i + n ≡ length counted → ((k : ℕ) → i ≤ k → k < length counted → get_or counted k 0 ≡ 0) → worth (drop i counted) ≡ 0
 unfolding worth
-seek_starts {counted} all = record { within = omega arith; zeros = ap (λ (n : ℕ). worth (drop n counted)) (sym all.long) ∙ ap worth (drop-length counted) }
+zeros_worth counted zero i e none = let all : i ≡ length counted = omega arith in rw (all, drop-length counted)
+zeros_worth counted (suc n) i e none =
+    let rest = zeros_worth counted n (i + 1) (omega arith) (λ k h l. none k (omega arith) l) in
+    omega (arith, worth_at counted i (omega arith), none i (omega arith) (omega arith), rest)
 
-pub seek_turn : {counted : List ℕ} {i : ℕ} → Digits counted → Seeking counted i → 0 < i → get_or counted i 0 ≡ 0 → Seeking counted (i - 1)
-seek_turn {counted} {i} all k some z =
-    let e : i - 1 + 1 ≡ i = omega arith in
-    let w = worth_at counted i (omega (arith, all.long, k.within)) in
-    record { within = omega (arith, k.within); zeros = rw e (omega (arith, w, k.zeros)) }
+-- the place that was found, or that of the last digit where there are none but zeros
+pub seek_first : {counted : List ℕ} (found : Option ℕ) → Digits counted
+    → ((i : ℕ) → found ≡ Some i → i < length counted)
+    → ((i : ℕ) → found ≡ Some i → get_or counted i 0 ≡ 0 → ⊥)
+    → ((i : ℕ) → found ≡ Some i → (k : ℕ) → i < k → k < length counted → get_or counted k 0 ≡ 0)
+    → (found ≡ None → (k : ℕ) → k < length counted → get_or counted k 0 ≡ 0)
+    → (unwrap_or found 0 < digit_count) × (worth (drop (unwrap_or found 0 + 1) counted) ≡ 0) × ((unwrap_or found 0 ≡ 0) ⊎ (0 < get_or counted (unwrap_or found 0) 0))
+seek_first {counted} (Some i) all inside some above_zeros zeros = (
+  omega (arith, all.long, inside i refl),
+  zeros_worth counted (length counted - (i + 1)) (i + 1) (omega (arith, inside i refl)) (λ k l. above_zeros i refl k (omega arith)),
+  ⊎_elim (λ z. absurd (some i refl z)) (λ up. inr up) (eq-zero-or-pos (get_or counted i 0)),
+)
+seek_first {counted} None all inside some above_zeros zeros =
+    (omega arith, zeros_worth counted (length counted - 1) 1 (omega (arith, all.long)) (λ k l. zeros refl k), inl refl)
 
 -- ---- the digits below i as text, the first one first
 unfoldable pub down : ℕ → List ℕ → List ℕ
@@ -132,35 +143,33 @@ module _ (counted : List ℕ) (all : Digits counted) (r : ℕ) (within : r < dig
   unfolding down
   down_all = rw add-one (sym (append-nil (decimal (worth counted))) ∙ down_from r 0 (omega arith))
 
--- those below i are still to come
-pub record Counting (counted out₀ : List ℕ) (at first : ℕ) (out : List ℕ) (i next : ℕ) : Type 0 where
-  pub within : i ≤ first
-  pub room : next + i ≡ at + first
-  pub printing : Printing out₀ at (down first counted) out next (down i counted)
+-- the digits in `rest`, which are the lowest of the count, are still to come, the last of them first
+pub record Counting (counted out₀ : List ℕ) (at first : ℕ) (rest out : List ℕ) (next : ℕ) : Type 0 where
+  pub lowest : (i : ℕ) → i < length rest → get_or rest i 0 ≡ get_or counted i 0
+  pub within : length rest ≤ first
+  pub room : next + length rest ≡ at + first
+  pub printing : Printing out₀ at (down first counted) out next (down (length rest) counted)
 
-pub count_starts : {counted out : List ℕ} {at first : ℕ} → Counting counted out at first out first at
-count_starts = record { within = omega arith; room = omega arith; printing = starts }
+module _ {counted out₀ : List ℕ} {at first : ℕ} {rest out : List ℕ} {next : ℕ} (k : Counting counted out₀ at first rest out next) where
+  module _ (rest' : List ℕ) (value : ℕ) (taken : rest ≡ rest' ++ value ∷ []) where
+    one_less : length rest ≡ suc (length rest')
+    one_less = omega (arith, ap length taken, length-append rest' (value ∷ []))
 
-module _ {counted out₀ : List ℕ} {at first : ℕ} {out : List ℕ} {i next : ℕ} (k : Counting counted out₀ at first out i next) where
-  pub count_bytes : length out ≡ length out₀
-  count_bytes = same_bytes k.printing
+    count_value : value ≡ get_or counted (length rest') 0
+    count_value = sym (get_or-append_seam rest' value [] 0) ∙ ap (λ (l : List ℕ). get_or l (length rest') 0) (sym taken) ∙ k.lowest (length rest') (omega (arith, one_less))
 
-  pub count_turn : {a : ℕ} → 0 < i → a ≡ 48 + get_or counted (i - 1) 0 → Counting counted out₀ at first (set out next a) (i - 1) (next + 1)
+    pub count_turn : {a : ℕ} → a ≡ 48 + value → Counting counted out₀ at first rest' (set out next a) (next + 1)
+    unfolding down
+    count_turn {a} ea = record {
+      lowest = λ i below. sym (get_or-append rest' (value ∷ []) 0 i below) ∙ ap (λ (l : List ℕ). get_or l i 0) (sym taken) ∙ k.lowest i (omega (arith, one_less));
+      within = omega (arith, k.within, one_less);
+      room = omega (arith, k.room, one_less);
+      printing = rw (ea, count_value) (byte (subst (λ (n : ℕ). Printing out₀ at (down first counted) out next (down n counted)) one_less k.printing));
+    }
+
+  pub count_ends : length rest ≡ 0 → Printed out₀ at (down first counted) out next
   unfolding down
-  count_turn {a} up ea =
-      let e : i ≡ suc (i - 1) = omega arith in
-      record {
-        within = omega (arith, k.within);
-        room = omega (arith, k.room);
-        printing = rw ea (byte (subst (λ (n : ℕ). Printing out₀ at (down first counted) out next (down n counted)) e k.printing));
-      }
-
-  pub count_ends : i ≤ 0 → Printed out₀ at (down first counted) out next
-  unfolding down
-  count_ends h = let e : i ≡ 0 = omega arith in done (rw e at k.printing)
-
-  pub count_room : at + digit_count ≤ length out₀ → first ≤ digit_count → 0 < i → next < length out
-  count_room fits few up = omega (arith, k.room, count_bytes)
+  count_ends e = done (rw e at k.printing)
 
 -- ---- nothing counted yet
 pub none_counted : Digits (replicate digit_count 0)

@@ -8,8 +8,9 @@ use lib.Dec.{ltb}
 use borrow.Author.Tests.{ltb-true, ltb-false}
 use native.Mathlib.Nat.{add-zero, zero-add, suc-add}
 use native.Mathlib.Numerals.{add-one}
-use lib.ListN.{length, get_or, take, drop, set, length-drop, length-append}
-use lib.Seq.{slice, slice-cons, slice_empty, drop-cons, take-nil, length-take-le}
+use lib.ListN.{length, get_or, take, drop, set, length-take, length-drop, length-append, drop_of_length-le}
+use lib.Seq.{drop-cons, length-take-le, get_or-take, get_or-drop}
+use Rattle.std.proofs.Common.{Fits, w32}
 use Rattle.ways.specs.Chain.{hops}
 use Rattle.ways.specs.Records.{chain_of}
 use Rattle.ways.specs.Sizes.{record_size}
@@ -20,78 +21,77 @@ use Rattle.text.specs.Printed.{Printed, LinesReach, longest_line}
 use Rattle.text.proofs.Printing.{Printing, starts, byte, part, done, same_bytes, behind, two_bytes, nothing, printed-length}
 use Rattle.text.proofs.Spelling.{decimal_one, number_length}
 
--- a part in the middle, in other words
-take-drop : (f n : ℕ) (l : List ℕ) → take n (drop f l) ≡ slice f (f + n) l
-take-drop zero n l = rw zero-add
-take-drop (suc f) n [] = rw suc-add (take-nil n)
-take-drop (suc f) n (x ∷ l) = rw suc-add (take-drop f n l)
-
 hops-take : (h : ℕ) (l : List ℕ) → h < length l → hops (take (suc h) l) ≡ h
 hops-take h [] lt = absurd (omega arith)
 hops-take h (x ∷ l) lt = length-take-le h l (omega arith)
 
 -- ---- a chain's line
+-- the persons of the record of a number, as the loop over its cells goes through them
+abbrev pub persons_at : List ℕ → ℕ → List ℕ
+persons_at cells chain =
+    take (chain * record_size + 2 + get_or cells (chain * record_size) 0 - (chain * record_size + 1)) (drop (chain * record_size + 1) cells)
+
 module _ {cells : List ℕ} {chain : ℕ} (r : RecordAt cells chain) where
   pub line_cells : chain * record_size + 2 + get_or cells (chain * record_size) 0 ≤ length cells
   line_cells = omega (arith, r.whole, r.few)
 
-  line_persons : chain_at cells chain ≡ take (suc (get_or cells (chain * record_size) 0)) (drop (suc (chain * record_size)) cells)
+  line_persons : chain_at cells chain ≡ persons_at cells chain
   unfolding chain_of
-  line_persons = let inside : chain * record_size < length cells = omega (arith, r.whole) in rw (drop-cons cells (chain * record_size) 0)
+  line_persons =
+      let inside : chain * record_size < length cells = omega (arith, r.whole) in
+      let many : chain * record_size + 2 + get_or cells (chain * record_size) 0 - (chain * record_size + 1) ≡ suc (get_or cells (chain * record_size) 0) = omega arith in
+      rw (drop-cons cells (chain * record_size) 0, many, add-one)
 
-  pub line_text : chain_line (chain_at cells chain) ≡ (48 + get_or cells (chain * record_size) 0) ∷ 58 ∷ (spaced (slice (chain * record_size + 1) (chain * record_size + 2 + get_or cells (chain * record_size) 0) cells) ++ 10 ∷ [])
+  line_hops : hops (persons_at cells chain) ≡ get_or cells (chain * record_size) 0
+  line_hops =
+      let h = get_or cells (chain * record_size) 0 in
+      let many : chain * record_size + 2 + h - (chain * record_size + 1) ≡ suc h = omega arith in
+      rw many (hops-take h (drop (chain * record_size + 1) cells) (omega (arith, length-drop (chain * record_size + 1) cells, line_cells)))
+
+  pub line_text : chain_line (chain_at cells chain) ≡ (48 + get_or cells (chain * record_size) 0) ∷ 58 ∷ (spaced (persons_at cells chain) ++ 10 ∷ [])
   unfolding chain_line
-  line_text =
-      let first = chain * record_size in
-      let h = get_or cells first 0 in
-      let enough : h < length (drop (suc first) cells) = omega (arith, length-drop (suc first) cells, line_cells) in
-      let e : first + 2 + h ≡ suc first + suc h = omega arith in
-      rw (line_persons, hops-take h (drop (suc first) cells) enough, decimal_one h (omega (arith, r.few)), e, add-one, take-drop (suc first) (suc h) cells)
+  line_text = rw (line_persons, line_hops, decimal_one (get_or cells (chain * record_size) 0) (omega (arith, r.few)))
 
--- the persons from a cell on are still to come
-pub record Lining (cells : List ℕ) (end cell₀ : ℕ) (out₀ : List ℕ) (next₀ : ℕ) (out : List ℕ) (cell next : ℕ) : Type 0 where
-  pub inside : end ≤ length cells
-  pub to : cell ≤ end
-  pub room : next + 11 * (end - cell) ≤ next₀ + 99
+-- what is small among the cells is small among these
+pub person_small : (cells : List ℕ) (chain index : ℕ) → ((i : ℕ) → Fits w32 (get_or cells i 0)) → index < length (persons_at cells chain) → get_or (persons_at cells chain) index 0 < 2 ^ 32
+person_small cells chain index all h =
+    let first = chain * record_size + 1 in
+    let many = chain * record_size + 2 + get_or cells (chain * record_size) 0 - first in
+    let inside : index < many = omega (arith, length-take {A = ℕ}) in
+    rw (get_or-take many (drop first cells) index 0 inside, get_or-drop first cells index 0) (all (first + index)).fits
+
+-- the persons from an index on are still to come
+pub record Lining (persons out₀ : List ℕ) (next₀ : ℕ) (out : List ℕ) (index next : ℕ) : Type 0 where
+  pub room : next + 11 * (length persons - index) ≤ next₀ + 99
   pub fits : next₀ + 100 ≤ length out₀
-  pub printing : Printing out₀ next₀ (spaced (slice cell₀ end cells) ++ 10 ∷ []) out next (spaced (slice cell end cells) ++ 10 ∷ [])
+  pub printing : Printing out₀ next₀ (spaced persons ++ 10 ∷ []) out next (spaced (drop index persons) ++ 10 ∷ [])
 
-pub lining_starts : {cells : List ℕ} {end cell : ℕ} {out : List ℕ} {next : ℕ} → end ≤ length cells → cell ≤ end → end ≤ cell + 9 → next + 100 ≤ length out → Lining cells end cell out next out cell next
-lining_starts a b few f = record { inside = a; to = b; room = omega arith; fits = f; printing = starts }
-
-module _ {cells : List ℕ} {end cell₀ : ℕ} {out₀ : List ℕ} {next₀ : ℕ} {out : List ℕ} {cell next : ℕ} (k : Lining cells end cell₀ out₀ next₀ out cell next) where
+module _ {persons out₀ : List ℕ} {next₀ : ℕ} {out : List ℕ} {index next : ℕ} (k : Lining persons out₀ next₀ out index next) where
   pub lining_bytes : length out ≡ length out₀
   lining_bytes = same_bytes k.printing
 
-  pub lining_room : cell < end → next + 11 < length out
+  pub lining_room : index < length persons → next + 11 < length out
   lining_room h = omega (arith, k.room, k.fits, lining_bytes)
 
-  pub lining_end_room : next < length out
-  lining_end_room = omega (arith, k.room, k.fits, lining_bytes)
-
-  pub lining_turn : {out' : List ℕ} {next' : ℕ} → cell < end → get_or cells cell 0 < 2 ^ 32 → Printed (set out next 32) (next + 1) (decimal (get_or cells cell 0)) out' next' → Lining cells end cell₀ out₀ next₀ out' (cell + 1) next'
+  pub lining_turn : {out' : List ℕ} {next' : ℕ} → index < length persons → get_or persons index 0 < 2 ^ 32 → Printed (set out next 32) (next + 1) (decimal (get_or persons index 0)) out' next' → Lining persons out₀ next₀ out' (index + 1) next'
   unfolding spaced
   lining_turn {out'} {next'} h small p =
-      let l = number_length (get_or cells cell 0) small in
-      let one : cell + 1 ≡ suc cell = omega arith in
+      let l = number_length (get_or persons index 0) small in
       record {
-        inside = k.inside;
-        to = omega arith;
         room = omega (arith, k.room, p.place, l);
         fits = k.fits;
-        printing = rw one (part (byte (rw (slice-cons cell end cells 0 h k.inside, append_assoc) at k.printing)) p);
+        printing = rw add-one (part (byte (rw (drop-cons persons index 0, append_assoc) at k.printing)) p);
       }
 
-  pub lining_ends : end ≤ cell → Printed out₀ next₀ (spaced (slice cell₀ end cells) ++ 10 ∷ []) (set out next 10) (next + 1)
+  pub lining_ends : length persons ≤ index → Printed out₀ next₀ (spaced persons ++ 10 ∷ []) (set out next 10) (next + 1)
   unfolding spaced
   lining_ends h =
-      let e : cell ≡ end = omega (arith, k.to) in
-      let none : slice cell end cells ≡ [] = ap (λ (n : ℕ). slice n end cells) e ∙ slice_empty end cells in
+      let none : drop index persons ≡ [] = drop_of_length-le persons h in
       done (byte (rw none at k.printing))
 
-pub line_done : {cells : List ℕ} {chain : ℕ} {out : List ℕ} {at a : ℕ} {out' : List ℕ} {cell next : ℕ} → RecordAt cells chain → a ≡ 48 + get_or cells (chain * record_size) 0
-    → Lining cells (chain * record_size + 2 + get_or cells (chain * record_size) 0) (chain * record_size + 1) (set (set out at a) (at + 1) 58) (at + 2) out' cell next
-    → chain * record_size + 2 + get_or cells (chain * record_size) 0 ≤ cell → Printed out at (chain_line (chain_at cells chain)) (set out' next 10) (next + 1) × (next + 1 ≤ at + longest_line)
+pub line_done : {cells : List ℕ} {chain : ℕ} {out : List ℕ} {at a : ℕ} {out' : List ℕ} {index next : ℕ} → RecordAt cells chain → a ≡ 48 + get_or cells (chain * record_size) 0
+    → Lining (persons_at cells chain) (set (set out at a) (at + 1) 58) (at + 2) out' index next
+    → length (persons_at cells chain) ≤ index → Printed out at (chain_line (chain_at cells chain)) (set out' next 10) (next + 1) × (next + 1 ≤ at + longest_line)
 line_done r ea k h = (rw (line_text r, ← ea) (behind two_bytes (lining_ends k h)), omega (arith, k.room))
 
 -- ---- many lines
@@ -143,12 +143,6 @@ module _ {cells : List ℕ} {first count : ℕ} {out₀ out : List ℕ} {next by
         within = omega (arith, reach_bytes);
         lines = rw (more, chains_one cells first n, lines_one (chains_at cells first n) (chain_at cells (first + n)), at) (behind k.lines p);
       }
-
-  pub reach_full : length out < bytes + longest_line → LinesReach cells first count out₀ out (record { next = next; bytes = bytes })
-  reach_full h = record { from = k.from; to = k.to; within = k.within; full = λ l. omega (arith, reach_bytes); lines = k.lines }
-
-  pub reach_all : count ≤ next → LinesReach cells first count out₀ out (record { next = next; bytes = bytes })
-  reach_all h = record { from = k.from; to = k.to; within = k.within; full = λ l. absurd (omega arith); lines = k.lines }
 
 -- with room for a line, there is one
 pub reach_moves : {cells : List ℕ} {first count : ℕ} {out out' : List ℕ} {reached : Reached} → LinesReach cells first count out out' reached → first < count → longest_line ≤ length out → first < reached.next

@@ -14,12 +14,10 @@ pub fn count_on(counted: &mut [u8; DIGITS], more: usize)
     ensures { (Digits counted.new) × (worth counted.new ≡ worth counted.old + more) }
 {
     let mut carry = more;
-    let mut i = 0;
-    while i < DIGITS {
-        let sum = counted[i] as usize + carry % 10;
-        counted[i] = (sum % 10) as u8;
+    for digit in counted.iter_mut() {
+        let sum = *digit as usize + carry % 10;
+        *digit = (sum % 10) as u8;
         carry = carry / 10 + sum / 10;
-        i += 1;
     }
 }
 
@@ -28,14 +26,7 @@ fn first_digit(counted: &[u8; DIGITS]) -> usize
     requires { Digits counted.now }
     ensures { (result < digit_count) × (worth (drop (result + 1) counted.now) ≡ 0) × ((result ≡ 0) ⊎ (0 < get_or counted.now result 0)) }
 {
-    let mut i = DIGITS - 1;
-    while 0 < i {
-        if counted[i] != 0 {
-            return i;
-        }
-        i -= 1;
-    }
-    i
+    counted.iter().rposition(|&digit| digit != 0).unwrap_or(0)
 }
 
 // The count as decimal text.
@@ -43,11 +34,10 @@ pub fn count(counted: &[u8; DIGITS], out: &mut [u8], at: usize) -> usize
     requires { (Digits counted.now) × (at + digit_count ≤ length out.old) }
     ensures { (Printed out.old at (decimal (worth counted.now)) out.new result) × (result ≤ at + digit_count) }
 {
-    let mut i = first_digit(counted) + 1;
+    let first = first_digit(counted);
     let mut next = at;
-    while 0 < i {
-        i -= 1;
-        out[next] = digit(counted[i] as u32);
+    for &value in counted[..=first].iter().rev() {
+        out[next] = digit(value as u32);
         next += 1;
     }
     next

@@ -1,6 +1,6 @@
 -- The ways on by marks are those of the definitions by persons seen: half chains, and left halves with the right halves that they meet.
 use mathlib.Core.Path.{◌≡◌, refl, sym, ap, ◌∙◌}
-use mathlib.Core.Bool.{Bool, true, false, cond}
+use mathlib.Core.Bool.{Bool, true, false, cond, not, ◌&&◌}
 use mathlib.Core.List.Memᴰ
 use mathlib.Core.List.{List, [], ◌∷◌, ◌++◌, map, flat_map, map-map, map-append, append-nil}
 use Prim.Native.Nat.{ℕ, zero, suc, ◌<◌}
@@ -13,11 +13,12 @@ use Rattle.ways.specs.Portions.{last_or}
 use Rattle.ways.specs.Join.{onward, left_halves, none_among, meets, glue}
 use Rattle.ways.proofs.Members.{flat_map_append}
 use Rattle.ways.proofs.Cut.{last_last_or, last_snoc}
-use Rattle.compact.specs.Compact.{persons, graph_of, Compact}
+use Rattle.compact.specs.Compact.{persons}
+use Rattle.compact.specs.declared.Graph as lent
 use Rattle.compact.specs.Marks.{Marked}
 use Rattle.compact.proofs.Rows.{row_people}
 use Rattle.compact.proofs.Marking.{marked_more}
-use Rattle.traces.specs.Traces.{clear, ending_at, following, taking}
+use Rattle.traces.specs.Traces.{links_of, clear, ending_at, following, taking}
 
 -- ---- rows in parts
 
@@ -47,22 +48,26 @@ module _ {A B C : Type 0} where
 
 -- nobody marked, nobody among those seen
 clear_none : {marks : List Bool} {seen : List ℕ} → Marked marks seen → (w : List ℕ) → clear marks w ≡ none_among w seen
-unfolding clear none_among
+unfolding none_among
 clear_none m [] = refl
-clear_none m (v ∷ w) = rw (m.each v, clear_none m w)
+clear_none {seen = seen} m (v ∷ w) = rw (m.each v, clear_none m w) (go (among v seen))
+  where
+    go : (b : Bool) → (not b && none_among w seen) ≡ cond b false (none_among w seen)
+    go true = refl
+    go false = refl
 
 -- ---- half chains: what follows ends at To
 
-pub following-onward : {rows targets : List ℕ} (k : Compact rows targets) (t i : ℕ) (marks : List Bool) (seen : List ℕ) (p : ℕ) → Marked marks seen → p < persons
-    → following (graph_of rows targets) (ending_at t) i marks p ≡ onward (graph_of rows targets) (λ q. eqb q t) i seen p
-unfolding following onward keep clear
-following-onward k t zero marks seen p m l = go (eqb p t)
+pub following-onward : (g : lent.Graph) (t i : ℕ) (marks : List Bool) (seen : List ℕ) (p : ℕ) → Marked marks seen → p < persons
+    → following (links_of g) (ending_at t) i marks p ≡ onward (links_of g) (λ q. eqb q t) i seen p
+unfolding following onward keep
+following-onward g t zero marks seen p m l = go (eqb p t)
   where
     go : (b : Bool) → keep (clear marks) (cond b ([] ∷ []) []) ≡ cond b ([] ∷ []) []
     go true = refl
     go false = refl
-following-onward {rows} {targets} k t (suc i) marks seen p m l =
-    flat_map_same _ _ (graph_of rows targets p) (λ v j. let h = row_people p k l j in rw (m.each v, following-onward k t i (set marks v true) (v ∷ seen) v (marked_more v h m) h))
+following-onward g t (suc i) marks seen p m l =
+    flat_map_same _ _ (links_of g p) (λ v j. let h = row_people p g.compact l j in rw (m.each v, following-onward g t i (set marks v true) (v ∷ seen) v (marked_more v h m) h))
 
 -- ---- chains: a left half, and the right halves that start where it ends
 
@@ -110,9 +115,9 @@ among_more : (x v : ℕ) (l seen : List ℕ) → among x l ≡ among x seen → 
 unfolding among
 among_more x v l seen e = among_snoc x v l ∙ ap (cond (eqb x v) true) e
 
-module _ {rows targets : List ℕ} (k : Compact rows targets) (rights : ℕ → List (List ℕ)) (hs : List (List ℕ)) (starts : (p : ℕ) → p < persons → rights p ≡ starting_at hs p) where
+module _ (g : lent.Graph) (rights : ℕ → List (List ℕ)) (hs : List (List ℕ)) (starts : (p : ℕ) → p < persons → rights p ≡ starting_at hs p) where
   meet : (i : ℕ) (marks : List Bool) (seen l : List ℕ) (p : ℕ) → Marked marks seen → ((x : ℕ) → among x l ≡ among x seen) → Last p l → p < persons
-      → map (λ w. l ++ w) (following (graph_of rows targets) rights i marks p) ≡ flat_map (λ w. map (glue (l ++ w)) (keep (meets (l ++ w)) hs)) (onward (graph_of rows targets) (λ q. true) i seen p)
+      → map (λ w. l ++ w) (following (links_of g) rights i marks p) ≡ flat_map (λ w. map (glue (l ++ w)) (keep (meets (l ++ w)) hs)) (onward (links_of g) (λ q. true) i seen p)
   unfolding following onward flat_map
   meet zero marks seen l p m e last h =
       ap (λ (r : List (List ℕ)). map (λ w. l ++ w) (keep (clear marks) r)) (starts p h)
@@ -120,24 +125,24 @@ module _ {rows targets : List ℕ} (k : Compact rows targets) (rights : ℕ → 
       ∙ ap (λ (r : List ℕ). map (glue r) (keep (meets r) hs)) (sym (append-nil l))
       ∙ sym (append-nil (map (glue (l ++ [])) (keep (meets (l ++ [])) hs)))
   meet (suc i) marks seen l p m e last h =
-      map-flat_map (λ w. l ++ w) (taking (graph_of rows targets) rights i marks) (graph_of rows targets p)
-      ∙ flat_map_same _ _ (graph_of rows targets p) (λ v j.
-      let b = row_people p k h j in
+      map-flat_map (λ w. l ++ w) (taking (links_of g) rights i marks) (links_of g p)
+      ∙ flat_map_same _ _ (links_of g p) (λ v j.
+      let b = row_people p g.compact h j in
       step v (among v seen) (m.each v)
       (meet i (set marks v true) (v ∷ seen) (l ++ (v ∷ [])) v (marked_more v b m) (λ x. among_more x v l seen (e x)) (last_snoc v l) b))
-      ∙ sym (flat_map_flat_map (λ w. map (glue (l ++ w)) (keep (meets (l ++ w)) hs)) (λ v. cond (among v seen) [] (map (◌∷◌ v) (onward (graph_of rows targets) (λ q. true) i (v ∷ seen) v))) (graph_of rows targets p))
+      ∙ sym (flat_map_flat_map (λ w. map (glue (l ++ w)) (keep (meets (l ++ w)) hs)) (λ v. cond (among v seen) [] (map (◌∷◌ v) (onward (links_of g) (λ q. true) i (v ∷ seen) v))) (links_of g p))
     where
       step : (v : ℕ) (b : Bool) → get_or marks v false ≡ b
-          → map (λ w. (l ++ (v ∷ [])) ++ w) (following (graph_of rows targets) rights i (set marks v true) v) ≡ flat_map (λ w. map (glue ((l ++ (v ∷ [])) ++ w)) (keep (meets ((l ++ (v ∷ [])) ++ w)) hs)) (onward (graph_of rows targets) (λ q. true) i (v ∷ seen) v)
-          → map (λ w. l ++ w) (taking (graph_of rows targets) rights i marks v) ≡ flat_map (λ w. map (glue (l ++ w)) (keep (meets (l ++ w)) hs)) (cond b [] (map (◌∷◌ v) (onward (graph_of rows targets) (λ q. true) i (v ∷ seen) v)))
+          → map (λ w. (l ++ (v ∷ [])) ++ w) (following (links_of g) rights i (set marks v true) v) ≡ flat_map (λ w. map (glue ((l ++ (v ∷ [])) ++ w)) (keep (meets ((l ++ (v ∷ [])) ++ w)) hs)) (onward (links_of g) (λ q. true) i (v ∷ seen) v)
+          → map (λ w. l ++ w) (taking (links_of g) rights i marks v) ≡ flat_map (λ w. map (glue (l ++ w)) (keep (meets (l ++ w)) hs)) (cond b [] (map (◌∷◌ v) (onward (links_of g) (λ q. true) i (v ∷ seen) v)))
       step v true f on = rw f
       step v false f on =
           rw f
-          (map-map (λ w. l ++ w) (◌∷◌ v) (following (graph_of rows targets) rights i (set marks v true) v)
-          ∙ same_map (following (graph_of rows targets) rights i (set marks v true) v)
+          (map-map (λ w. l ++ w) (◌∷◌ v) (following (links_of g) rights i (set marks v true) v)
+          ∙ same_map (following (links_of g) rights i (set marks v true) v)
           ∙ on
-          ∙ flat_map_same _ _ (onward (graph_of rows targets) (λ q. true) i (v ∷ seen) v) (λ w j. ap (λ (r : List ℕ). map (glue r) (keep (meets r) hs)) (append_snoc l v w))
-          ∙ sym (flat_map_map (λ w. map (glue (l ++ w)) (keep (meets (l ++ w)) hs)) (◌∷◌ v) (onward (graph_of rows targets) (λ q. true) i (v ∷ seen) v)))
+          ∙ flat_map_same _ _ (onward (links_of g) (λ q. true) i (v ∷ seen) v) (λ w j. ap (λ (r : List ℕ). map (glue r) (keep (meets r) hs)) (append_snoc l v w))
+          ∙ sym (flat_map_map (λ w. map (glue (l ++ w)) (keep (meets (l ++ w)) hs)) (◌∷◌ v) (onward (links_of g) (λ q. true) i (v ∷ seen) v)))
         where
           same_map : (ws : List (List ℕ)) → map (λ w. l ++ (v ∷ w)) ws ≡ map (λ w. (l ++ (v ∷ [])) ++ w) ws
           same_map [] = refl
@@ -145,8 +150,8 @@ module _ {rows targets : List ℕ} (k : Compact rows targets) (rights : ℕ → 
 
   -- the chains whose halves are of so many hops
   pub meet_all : (i s : ℕ) (marks : List Bool) → Marked marks (s ∷ []) → s < persons
-      → map (◌∷◌ s) (following (graph_of rows targets) rights i marks s) ≡ flat_map (λ l. map (glue l) (keep (meets l) hs)) (left_halves (graph_of rows targets) s i)
+      → map (◌∷◌ s) (following (links_of g) rights i marks s) ≡ flat_map (λ l. map (glue l) (keep (meets l) hs)) (left_halves (links_of g) s i)
   unfolding left_halves
   meet_all i s marks m h =
       meet i marks (s ∷ []) (s ∷ []) s m (λ x. refl) refl h
-      ∙ sym (flat_map_map (λ l. map (glue l) (keep (meets l) hs)) (◌∷◌ s) (onward (graph_of rows targets) (λ q. true) i (s ∷ []) s))
+      ∙ sym (flat_map_map (λ l. map (glue l) (keep (meets l) hs)) (◌∷◌ s) (onward (links_of g) (λ q. true) i (s ∷ []) s))

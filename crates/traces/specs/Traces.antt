@@ -1,24 +1,29 @@
 -- What extending a chain and pairing it with its right halves ask, and what they do. Definitions only.
-use Rattle.std.specs.Prelude.{◌≡◌, Bool, true, false, cond, ℕ, zero, suc, ◌+◌, ◌-◌, ◌*◌, ◌≤◌, ◌<◌, length, get_or, set, eqb}
+use Rattle.std.specs.Prelude.{◌≡◌, Bool, true, false, cond, not, ℕ, zero, suc, ◌+◌, ◌-◌, ◌*◌, ◌≤◌, ◌<◌, length, get_or, set, take, drop, eqb}
 use mathlib.Core.List.{List, [], ◌∷◌, map, flat_map}
+use Rattle.std.specs.List.{list_all}
 use Rattle.ways.specs.Graph.{Graph, keep}
 use Rattle.ways.specs.Sizes.{record_size}
-use Rattle.compact.specs.Compact.{persons, graph_of, Compact}
-use Rattle.pages.specs.Pages.{Page, emits, record_with}
+use Rattle.compact.specs.Compact.{persons, graph_of}
+use Rattle.compact.specs.declared.Graph as lent
+use Rattle.pages.specs.Pages.{Page, emits, blank, record_with}
 use Rattle.pages.specs.declared.HandedOver.{HandedOver}
-use Rattle.traces.specs.HandingOver.{page, part}
+use Rattle.traces.specs.Indexed.{place_of}
+use Rattle.traces.specs.HandingOver.{page, writes}
 use Rattle.traces.specs.declared.trace.Trace.{Trace}
+use Rattle.traces.specs.declared.tracing.Tracing.{Tracing}
+
+-- whom the links of the lent graph lead to
+abbrev pub links_of : lent.Graph → Graph
+links_of g = graph_of g.starts.now g.targets.now
+
+-- so many cells from one on
+abbrev pub part : List ℕ → ℕ → ℕ → List ℕ
+part cells from count = take count (drop from cells)
 
 -- whether nobody of the persons is marked
-unfoldable pub clear : List Bool → List ℕ → Bool
-clear marks [] = true
-clear marks (v ∷ w) = cond (get_or marks v false) false (clear marks w)
-
--- cells that are persons, and a mark for each person
-pub record Persons (halves : List ℕ) (marks : List Bool) (from count : ℕ) : Type 0 where
-  pub wide : length marks ≡ persons
-  pub there : from + count ≤ length halves
-  pub people : (c : ℕ) → c < from + count → get_or halves c 0 < persons
+abbrev pub clear : List Bool → List ℕ → Bool
+clear marks = list_all (λ v. not (get_or marks v false))
 
 -- ---- right halves, without their first person
 
@@ -35,10 +40,6 @@ unfoldable pub rests_of : List ℕ → ℕ → ℕ → ℕ → List (List ℕ)
 rests_of halves rest half zero = []
 rests_of halves rest half (suc n) = rest_of halves rest half ∷ rests_of halves rest (suc half) n
 
--- where the index has those of so many hops, one or more, that start at a person: a row for each number of hops, and the end of the row
-abbrev pub place_of : ℕ → ℕ → ℕ
-place_of rest p = (rest - 1) * suc persons + p
-
 -- those that start at the person p, by the index
 abbrev pub indexed_at : List ℕ → List ℕ → ℕ → ℕ → List (List ℕ)
 indexed_at halves index rest p = rests_of halves rest (get_or index (place_of rest p) 0) (get_or index (place_of rest p + 1) 0 - get_or index (place_of rest p) 0)
@@ -47,34 +48,31 @@ indexed_at halves index rest p = rests_of halves rest (get_or index (place_of re
 abbrev pub rights_of : List ℕ → List ℕ → ℕ → ℕ → ℕ → List (List ℕ)
 rights_of halves index to rest p = cond (eqb rest 0) (ending_at to p) (indexed_at halves index rest p)
 
--- the index of the right halves of so many hops: what it points at are records of persons
-pub record Indexed (halves index : List ℕ) (rest : ℕ) : Type 0 where
-  pub some : 1 ≤ rest
-  pub within : place_of rest persons < length index
-  pub there : (p : ℕ) → p < persons → get_or index (place_of rest p + 1) 0 * record_size ≤ length halves
-  pub people : (p : ℕ) → p < persons → (c : ℕ) → c < get_or index (place_of rest p + 1) 0 * record_size → get_or halves c 0 < persons
+-- those that are lent
+abbrev pub rights_in : Tracing → ℕ → List (List ℕ)
+rights_in w = rights_of w.halves.now w.index.now w.to w.rest
 
--- cells for the records and for the hops of a chain that is whole, a mark for each person, and nothing noted yet
-pub record Open (marks : List Bool) (out chain : List ℕ) (w : Trace) (before : HandedOver) : Type 0 where
-  pub wide : length marks ≡ persons
-  pub room : w.room * record_size ≤ length out
-  pub long : length chain ≡ record_size
-  pub some : 1 ≤ w.len
-  pub short : w.len + w.left + w.rest < record_size
-  pub place : w.last < persons
-  pub none : before.more ≡ 0
+-- the sequence of one person, to which so many hops are still to come
+abbrev pub alone : ℕ → ℕ → Trace
+alone p hops = record { chain = set blank 1 p; len = 1; left = hops; last = p }
 
 -- the records of the chain so far with each of the ways on behind it
-abbrev pub handed : List ℕ → Trace → Page → List (List ℕ) → Page
-handed chain w s ws = emits w.writes w.room s (map (record_with chain w.len) ws)
+abbrev pub handed : Tracing → Trace → Page → List (List ℕ) → Page
+handed w t s ws = emits (writes w.purpose) w.room s (map (record_with t.chain t.len) ws)
 
--- each right half that starts at the last person: the index is asked only for those that have a hop
-pub record Ready (halves index : List ℕ) (marks : List Bool) (out chain : List ℕ) (w : Trace) (before : HandedOver) : Type 0 where
-  pub opens : Open marks out chain w before
-  pub indexed : (w.rest ≡ 0 → ⊥) → Indexed halves index w.rest
+-- cells for the records and for the hops of a chain that is whole, a mark for each person, and nothing noted yet
+pub record Ready (w : Tracing) (marks : List Bool) (out : List ℕ) (t : Trace) (before : HandedOver) : Type 0 where
+  pub wide : length marks ≡ persons
+  pub room : w.room * record_size ≤ length out
+  pub long : length t.chain ≡ record_size
+  pub some : 1 ≤ t.len
+  pub short : t.len + t.left + w.rest < record_size
+  pub place : t.last < persons
+  pub none : before.more ≡ false
 
-pub record Arrived (halves index : List ℕ) (marks : List Bool) (out out' chain : List ℕ) (w : Trace) (before after : HandedOver) : Type 0 where
-  pub right : page after out' ≡ handed chain w (page before out) (keep (clear marks) (rights_of halves index w.to w.rest w.last))
+-- each right half that starts at the last person
+pub record Arrived (w : Tracing) (marks : List Bool) (out out' : List ℕ) (t : Trace) (before after : HandedOver) : Type 0 where
+  pub right : page after out' ≡ handed w t (page before out) (keep (clear marks) (rights_in w t.last))
 
 -- the ways on from p, who stands last: so many hops past nobody marked, and then a right half that nobody marked stands in
 unfoldable pub following : Graph → (ℕ → List (List ℕ)) → ℕ → List Bool → ℕ → List (List ℕ)
@@ -86,10 +84,6 @@ abbrev pub taking : Graph → (ℕ → List (List ℕ)) → ℕ → List Bool �
 taking g rights i marks v = cond (get_or marks v false) [] (map (◌∷◌ v) (following g rights i (set marks v true) v))
 
 -- extending
-pub record Going (rows targets halves index : List ℕ) (marks : List Bool) (out chain : List ℕ) (w : Trace) (before : HandedOver) : Type 0 where
-  pub graph : Compact rows targets
-  pub ready : Ready halves index marks out chain w before
-
-pub record Extended (rows targets halves index : List ℕ) (marks marks' : List Bool) (out out' chain : List ℕ) (w : Trace) (before after : HandedOver) : Type 0 where
+pub record Extended (w : Tracing) (marks marks' : List Bool) (out out' : List ℕ) (t : Trace) (before after : HandedOver) : Type 0 where
   pub same : marks' ≡ marks
-  pub right : page after out' ≡ handed chain w (page before out) (following (graph_of rows targets) (rights_of halves index w.to w.rest) w.left marks w.last)
+  pub right : page after out' ≡ handed w t (page before out) (following (links_of w.graph) (rights_in w) t.left marks t.last)

@@ -9,3 +9,4 @@ pub mod extend;
 mod pairs;
 mod records;
 pub mod trace;
+pub mod tracing;

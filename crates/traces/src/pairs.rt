@@ -1,55 +1,49 @@
 // A left half has come to its middle person: it is paired with each right half that starts there.
-ghost use Rattle.std.specs.Prelude.{◌≡◌};
-ghost use Rattle.traces.specs.HandingOver.{part};
-ghost use Rattle.traces.specs.Traces.{clear, Persons, Ready, Arrived};
+ghost use Rattle.std.specs.Prelude.{◌≡◌, ◌<◌, EachIndex, slice_index};
+ghost use Rattle.compact.specs.Compact.{persons};
+ghost use Rattle.traces.specs.Traces.{clear, Ready, Arrived};
 
 use crate::trace::Trace;
+use crate::tracing::Tracing;
 use compact::{PERSONS, STARTS};
 use pages::HandedOver;
 use ways::RECORD;
 
-// Whether nobody of the right half, whose cells behind the middle person begin at `from`, stands in the left half.
-fn apart(halves: &[u32], marks: &[bool; PERSONS], from: usize, count: usize) -> bool
-    requires { Persons halves.now marks.now from count }
-    ensures { result ≡ clear marks.now (part halves.now from count) }
+// Whether nobody of these persons is marked.
+fn apart(people: &[u32], marks: &[bool; PERSONS]) -> bool
+    requires { EachIndex people.now (λ i. slice_index people.now i < persons) }
+    ensures { result ≡ clear marks.now people.now }
 {
-    let mut i = 0;
-    while i < count {
-        let v = halves[from + i] as usize;
-        if marks[v] {
-            return false;
-        }
-        i += 1;
-    }
-    true
+    people.iter().all(|v| !marks[*v as usize])
 }
 
 // Joins the left half with each right half that starts at its last person and shares nobody else with it: the index says where they
 // stand. Where no hop is left for a right half, the sequence is whole by itself, or not at all.
 pub fn arrive(
-    halves: &[u32],
-    index: &[usize],
+    tracing: &Tracing<'_>,
     marks: &[bool; PERSONS],
     out: &mut [u32],
-    chain: [u32; RECORD],
     trace: Trace,
     before: HandedOver,
 ) -> HandedOver
-    requires { Ready halves.now index.now marks.now out.old chain trace before }
-    ensures { Arrived halves.now index.now marks.now out.old out.new chain trace before result }
+    requires { Ready tracing.now marks.now out.old trace before }
+    ensures { Arrived tracing.now marks.now out.old out.new trace before result }
 {
-    if trace.rest == 0 {
-        return crate::records::end(halves, out, chain, trace, before);
+    if tracing.rest == 0 {
+        return crate::records::end(tracing, out, trace, before);
     }
-    let place = (trace.rest - 1) * STARTS + trace.last;
-    let mut half = index[place];
-    let end = index[place + 1];
+    let halves = tracing.halves;
+    let index = tracing.index;
+    let place = (tracing.rest - 1) * STARTS + trace.last;
     let mut got = before;
-    while half < end && got.more == 0 {
+    for half in index[place]..index[place + 1] {
         let from = half * RECORD + 2;
-        half += 1;
-        if apart(halves, marks, from, trace.rest) {
-            got = crate::records::hand_over(halves, out, chain, trace, from, got);
+        let behind = &halves[from..from + tracing.rest];
+        if apart(behind, marks) {
+            got = crate::records::hand_over(tracing, out, trace, behind, got);
+            if got.more {
+                break;
+            }
         }
     }
     got

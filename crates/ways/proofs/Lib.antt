@@ -1,5 +1,6 @@
 -- The laws that the other rooms cite.
 pub mod Cases
+pub mod Parts
 pub mod Members
 pub mod Cut
 pub mod Way

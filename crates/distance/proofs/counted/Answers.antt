@@ -18,14 +18,15 @@ overflow_cast-question-2 c =
 pub distances-cells-requires : goal.distances-cells-requires
 distances-cells-requires c =
     let a = asked_of_answerable c.args.file.now c.args.question c.args.person c.requires in
-    record { compact = c.fill.ensures.compact; end = a.0.to; hops = a.0.proper.most }
+    record { end = a.0.to; hops = a.0.proper.most }
 
-pub bounds-cells-at : goal.bounds-cells-at
-bounds-cells-at c =
+pub bounds-cells-person : goal.bounds-cells-person
+bounds-cells-person c =
     (asked_of_answerable c.args.file.now c.args.question c.args.person c.requires).1
 
 pub returns : goal.returns
 returns c =
     let a = asked_of_answerable c.args.file.now c.args.question c.args.person c.requires in
-    c.distances-cells.ensures.cell c.args.person a.1
+    c.from.ensures
+    ∙ c.distances-cells.ensures.cell c.args.person a.1
     ∙ ap (λ (g : Graph). fewest g c.args.question.to c.args.question.hops c.args.person) (fun_ext c.fill.ensures.graph)

@@ -1,6 +1,7 @@
 -- `joined` meets its contract: the graph is the question's, and so what is joined over it is the promise.
+use mathlib.Core.Path.{refl}
 use Rattle.question.proofs.Growing.{zeros_fillable}
-use Rattle.join.proofs.Public.{join_asked, join_passed, join_joins}
+use Rattle.join.proofs.Public.{join_asked, join_seeking, join_joins}
 use Rattle.join.proofs.joined.Goals as goal
 
 pub fill-requires : goal.fill-requires
@@ -13,7 +14,7 @@ counts-counts-requires c =
 
 pub join_graph-requires : goal.join_graph-requires
 join_graph-requires c =
-    join_passed c.args.file.now c.args.question c.args.out.now c.requires c.fill.ensures c.counts-counts.ensures
+    join_seeking c.args.file.now c.args.question c.args.out.now c.requires c.fill.ensures c.counts-counts.ensures refl refl
 
 pub returns : goal.returns
 returns c =

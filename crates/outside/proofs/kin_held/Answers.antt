@@ -9,7 +9,7 @@ use Rattle.outside.proofs.kin_held.Goals as goal
 pub returns-then-not-is_held : goal.returns-then-not-is_held
 returns-then-not-is_held c =
     let wrong = sym c.is_held.ensures ∙ c.if-not-is_held.true in
-    record { wrong_size = λ n. (c.refusal_number.ensures, refl, refl); moved = λ e. absurd (true≢false (sym e ∙ wrong)) }
+    record { wrong_size = λ n. (refl, refl, refl); moved = λ e. absurd (true≢false (sym e ∙ wrong)) }
 
 pub held_of-before-requires : goal.held_of-before-requires
 held_of-before-requires c = whole_sizes _ (sym c.is_held.ensures ∙ c.if-not-is_held.false)

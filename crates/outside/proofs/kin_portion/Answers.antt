@@ -10,5 +10,6 @@ listed_number-requires c = portion_small _ _ c.portion.ensures (omega (arith, c.
 
 pub returns : goal.returns
 returns c =
-    same_asked (asked_fault c.args.file.now) (listing_for c.args.file.now) c.asking-question.ensures
-    (record { answer = c.portion.result; portioned = c.portion.ensures; small = portion_small _ _ c.portion.ensures (omega (arith, c.type_inv)); answers = c.listed_number.ensures })
+    rw (← c.start.ensures)
+    (same_asked (asked_fault c.args.file.now) (listing_for c.args.file.now) c.asking-question.ensures
+    (record { answer = c.portion.result; portioned = c.portion.ensures; small = portion_small _ _ c.portion.ensures (omega (arith, c.type_inv)); answers = c.listed_number.ensures }))

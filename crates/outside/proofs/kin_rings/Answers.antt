@@ -10,5 +10,6 @@ listed_number-requires c = rings_small _ _ c.rings.ensures (omega (arith, c.type
 
 pub returns : goal.returns
 returns c =
-    same_asked (rings_asked_fault c.args.file.now) (rings_for c.args.file.now) c.asking-question.ensures
-    (record { answer = c.rings.result; portioned = c.rings.ensures; small = rings_small _ _ c.rings.ensures (omega (arith, c.type_inv)); answers = c.listed_number.ensures })
+    rw (← c.start.ensures)
+    (same_asked (rings_asked_fault c.args.file.now) (rings_for c.args.file.now) c.asking-question.ensures
+    (record { answer = c.rings.result; portioned = c.rings.ensures; small = rings_small _ _ c.rings.ensures (omega (arith, c.type_inv)); answers = c.listed_number.ensures }))

@@ -2,10 +2,10 @@
 use Rattle.search.proofs.Face.{list_ready, list_answered}
 use Rattle.search.proofs.list.Goals as goal
 
-pub go_through-found-requires : goal.go_through-found-requires
-go_through-found-requires c =
+pub go_through-more-requires : goal.go_through-more-requires
+go_through-more-requires c =
     list_ready c.requires _ _
 
 pub returns : goal.returns
 returns c =
-    list_answered c.requires c.go_through-found.ensures
+    list_answered c.requires c.go_through-more.ensures

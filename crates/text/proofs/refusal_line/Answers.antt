@@ -1,7 +1,5 @@
 -- `refusal_line` prints its parts one behind the other.
-use mathlib.Core.Path.{◌∙◌}
 use native.Mathlib.Omega.{arith}
-use lib.ListN.{length-set}
 use Rattle.text.proofs.Printing.{printed-length}
 use Rattle.text.proofs.Spelling.{number_length}
 use Rattle.text.proofs.Lining.{refusal_done}
@@ -26,10 +24,6 @@ bounds-out-next c =
 pub overflow_add-result : goal.overflow_add-result
 overflow_add-result c =
     omega (arith, number_length _ c.ranges.number.fits, number_length _ c.ranges.place.fits, c.put-next.ensures.place, c.number-next.ensures.place, c.put-next-2.ensures.place, c.number-next-2.ensures.place)
-
-pub shape_of-out : goal.shape_of-out
-shape_of-out c =
-    simp length-set (c.number-next-2.auto.out ∙ c.put-next-2.auto.out ∙ c.number-next.auto.out ∙ c.put-next.auto.out)
 
 pub returns : goal.returns
 returns c =

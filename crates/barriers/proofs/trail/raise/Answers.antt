@@ -6,4 +6,4 @@ pub returns-then-n-trail : goal.returns-then-n-trail
 returns-then-n-trail c = raise_none c.requires
 
 pub returns : goal.returns
-returns c = raise_set c.requires c.if-n-trail.false c.wide.ensures
+returns c = raise_set c.requires c.if-n-trail.false c.from.ensures

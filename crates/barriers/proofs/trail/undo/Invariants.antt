@@ -1,10 +1,6 @@
 -- `undo` goes down the trail.
-use Prim.Native.Nat.{◌-◌}
 use Rattle.barriers.proofs.Unwinding.{Undoing}
 use Rattle.barriers.proofs.trail.undo.Given as goal
 
 abbrev pub invariant-loop-n : goal.invariant-loop-n
 invariant-loop-n l = Undoing l.initial.barriers l.trail l.low l.high l.barriers l.n
-
-abbrev pub decreases-loop-n : goal.decreases-loop-n
-decreases-loop-n l = l.n - l.low

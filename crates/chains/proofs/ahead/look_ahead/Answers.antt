@@ -6,8 +6,8 @@ use Rattle.chains.proofs.ahead.look_ahead.Goals as goal
 
 pub go_on-answer-requires : goal.go_on-answer-requires
 go_on-answer-requires c =
-    look_on c.args.input.now c.args.cells.now c.args.progress c.in-Portion.is (sym (ap input_said c.in-Asks.is) ∙ c.heard.ensures) c.requires
+    look_on c.args.input.now c.args.cells.now c.args.progress c.in-Portion.is (sym (ap input_said c.in-Ok.is) ∙ c.heard.ensures) c.requires
 
-pub returns-in-Asks : goal.returns-in-Asks
-returns-in-Asks c =
-    look_answered c.args.input.now c.args.cells.now c.args.progress c.in-Portion.is (sym (ap input_said c.in-Asks.is) ∙ c.heard.ensures) c.go_on-answer.result c.go_on-answer.ensures c.answered-next.ensures
+pub returns-in-Ok : goal.returns-in-Ok
+returns-in-Ok c =
+    look_answered c.args.input.now c.args.cells.now c.args.progress c.in-Portion.is (sym (ap input_said c.in-Ok.is) ∙ c.heard.ensures) c.go_on-answer.result c.go_on-answer.ensures c.from-left.ensures

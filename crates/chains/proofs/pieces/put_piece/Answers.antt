@@ -1,5 +1,7 @@
 -- `put_piece` meets its contract: each case of what is left has its law.
+use mathlib.Core.Path.{◌≡◌}
 use native.Mathlib.Omega.{arith}
+use Rattle.refusals.specs.Reasons.{number_of}
 use Rattle.chains.proofs.Putting.{put_lined, put_lines, put_end, put_refusal}
 use Rattle.chains.proofs.pieces.put_piece.Goals as goal
 
@@ -17,4 +19,5 @@ returns-else-next-count c =
 pub returns-in-Refusal : goal.returns-in-Refusal
 returns-in-Refusal c =
     let line = c.refusal_line-bytes.ensures in
-    put_refusal c.args.cells.now c.args.progress c.in-Refusal.is line.0 (omega (arith, line.1, c.requires.1)) c.piece_of-in-Refusal.ensures
+    let number : c.number.result ≡ number_of c.in-Refusal.refusal.reason = c.number.ensures.0 in
+    put_refusal c.args.cells.now c.args.progress c.in-Refusal.is (rw number at line.0) (omega (arith, line.1, c.requires.1)) c.piece_of-in-Refusal.ensures

@@ -5,4 +5,4 @@ use Rattle.chains.proofs.Looking.{begins}
 use Rattle.chains.proofs.progress.begin.Goals as goal
 
 pub returns : goal.returns
-returns c = begins refl refl none_counted none_worth refl
+returns c = begins refl refl refl none_counted none_worth

@@ -1,60 +1,22 @@
--- `leads` meets its contract. The loop's invariant: what is still to be looked at decides.
-use mathlib.Core.Path.{refl}
-use Prim.Native.Nat.{◌+◌}
-use native.Mathlib.Omega.{arith}
-use Rattle.distance.proofs.Stepping.{row_ends, passing_starts, passing_person, passing_finds, passing_on, passing_ends}
+-- `leads` meets its contract: each target of the row is a person, and the library looks where the definition does.
+use mathlib.Core.Path.{refl, ◌∙◌}
+use lib.Dec.{eqb}
+use lib.ListN.{length, get_or}
+use Prim.Native.Nat.{ℕ, ◌<◌}
+use Rattle.std.proofs.iter.Serving.{serving}
+use Rattle.std.proofs.Common.{rules}
+use Rattle.std.proofs.lemmas.Iterator.{YieldsList-from_slice}
+use Rattle.std.proofs.lemmas.Iterator.Search.{any_from_yields_List}
+use Rattle.compact.specs.Compact.{graph_of}
+use Rattle.distance.proofs.Looking.{row_person, any_anybody}
 use Rattle.distance.proofs.table.leads.Goals as goal
 
-pub overflow_add-end : goal.overflow_add-end
-overflow_add-end c = omega (arith, c.requires.inside)
-
-pub offset_bounds-starts-person : goal.offset_bounds-starts-person
-offset_bounds-starts-person c = omega (arith, c.requires.inside)
-
-pub bounds-starts-person : goal.bounds-starts-person
-bounds-starts-person c = omega (arith, c.requires.inside, c.requires.compact.starts)
-
-pub overflow_cast-end : goal.overflow_cast-end
-overflow_cast-end c = omega (arith, c.shared_slice_known-1.given (c.args.person + 1))
-
-pub offset_bounds-starts-person-2 : goal.offset_bounds-starts-person-2
-offset_bounds-starts-person-2 c = omega (arith, c.requires.inside)
-
-pub bounds-starts-person-2 : goal.bounds-starts-person-2
-bounds-starts-person-2 c = omega (arith, c.requires.inside, c.requires.compact.starts)
-
-pub overflow_cast-at : goal.overflow_cast-at
-overflow_cast-at c = omega (arith, c.shared_slice_known-1.given c.args.person)
-
-pub loop-at-init : goal.loop-at-init
-loop-at-init c = passing_starts c.requires refl refl
-
-pub offset_bounds-targets-at : goal.offset_bounds-targets-at
-offset_bounds-targets-at c =
-    let ends = row_ends c.requires refl in omega (arith, c.loop-at-test.true, ends, c.type_inv)
-
-pub bounds-targets-at : goal.bounds-targets-at
-bounds-targets-at c = let ends = row_ends c.requires refl in omega (arith, c.loop-at-test.true, ends)
-
-pub overflow_cast-target : goal.overflow_cast-target
-overflow_cast-target c = let low = passing_person c.requires refl c.loop-at.invariant c.loop-at-test.true in omega (arith, low)
-
-pub bounds-cells-target : goal.bounds-cells-target
-bounds-cells-target c =
-    let low = passing_person c.requires refl c.loop-at.invariant c.loop-at-test.true in omega (arith, low, c.requires.size)
-
-pub returns-then-cells-target : goal.returns-then-cells-target
-returns-then-cells-target c = passing_finds c.requires refl c.loop-at.invariant c.loop-at-test.true c.if-cells-target.true
-
-pub overflow_add-at : goal.overflow_add-at
-overflow_add-at c =
-    let ends = row_ends c.requires refl in omega (arith, c.loop-at-test.true, ends, c.type_inv)
-
-pub loop-at-smaller : goal.loop-at-smaller
-loop-at-smaller c = omega (arith, c.loop-at-test.true)
-
-pub loop-at-preserved : goal.loop-at-preserved
-loop-at-preserved c = passing_on c.requires refl c.loop-at.invariant c.loop-at-test.true c.if-cells-target.false
+pub any-requires-clause-callable : goal.any-requires-clause-callable
+any-requires-clause-callable c =
+    let inside : (i d : ℕ) → i < length c.next.result.now → get_or c.next.result.now i d < 1024 = λ i d l. rw c.next.ensures (row_person c.args.person i d c.args.graph.compact c.requires (rw c.next.ensures at l)) in
+    grind (serving, inside)
 
 pub returns : goal.returns
-returns c = passing_ends c.requires refl c.loop-at.invariant c.loop-at-test.false
+returns c =
+    any_from_yields_List (λ v. eqb (get_or c.args.cells.now v 0) c.args.hops) _ _ _ c.any.ensures.ran (YieldsList-from_slice c.next.result.now c.iter.ensures.rest) (λ x b q k. search rules)
+    ∙ rw (c.next.ensures, any_anybody c.args.cells.now c.args.hops (graph_of c.args.graph.starts.now c.args.graph.targets.now c.args.person)) refl

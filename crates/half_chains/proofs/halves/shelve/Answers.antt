@@ -1,42 +1,25 @@
--- What was handed over is the half chains of at most so many hops, and the index says before whose how many stand.
-use native.Mathlib.Omega.{arith}
-use borrow.Author.Tests.{eq-eqb, ne_eqb}
+-- What was handed over is the half chains of fewer hops, and the index says before whose how many stand.
 use mathlib.Core.Logic.{inl, inr}
-use mathlib.Core.Path.{◌∙◌}
-use Rattle.half_chains.proofs.Shelving.{shelve_begin, shelve_start, shelve_first, shelve_turn, shelve_end}
+use mathlib.Core.Path.{refl}
+use native.Mathlib.Omega.{arith}
+use Rattle.half_chains.proofs.Shelving.{shelve_start, shelve_turn, shelve_end}
 use Rattle.half_chains.proofs.halves.shelve.Goals as goal
 
-pub bounds-marks-from : goal.bounds-marks-from
-bounds-marks-from c = omega (arith, c.requires.seeking.source, c.requires.seeking.known)
-
 pub loop-hops-init : goal.loop-hops-init
-loop-hops-init c = shelve_start c.requires c.begin-got.ensures c.begin-got.auto.working
-
-pub by_first_person-got-requires : goal.by_first_person-got-requires
-by_first_person-got-requires c = shelve_first c.loop-hops.invariant c.loop-hops-test.true (eq-eqb c.loop-hops.got.more 0 c.if-got-eq0.true)
+loop-hops-init c = shelve_start c.requires refl refl c.begin-got.ensures c.begin-got.auto.working
 
 pub loop-hops-preserved : goal.loop-hops-preserved
 loop-hops-preserved c =
-    let at_row = c.by_first_person-got in
-    shelve_turn c.loop-hops.invariant c.loop-hops-test.true (eq-eqb c.loop-hops.got.more 0 c.if-got-eq0.true) at_row.ensures at_row.auto.index at_row.auto.working
+    let row = c.by_first_person-got in
+    shelve_turn c.loop-hops.invariant c.loop-hops-test.true c.if-got.false row.ensures row.auto.index row.auto.working
 
-pub begin-got-requires : goal.begin-got-requires
-begin-got-requires c = shelve_begin c.requires
+pub returns : goal.returns
+returns c = shelve_end refl refl c.begin-got.ensures c.loop-hops.invariant (inl (omega (arith, c.loop-hops.invariant.at, c.loop-hops-test.false)))
 
-pub shape_of-index-else-got-eq0 : goal.shape_of-index-else-got-eq0
-shape_of-index-else-got-eq0 c = c.loop-hops.invariant.wide
+pub returns-then-got : goal.returns-then-got
+returns-then-got c = shelve_end refl refl c.begin-got.ensures c.loop-hops.invariant (inr c.if-got.true)
 
-pub shape_of-working-else-got-eq0 : goal.shape_of-working-else-got-eq0
-shape_of-working-else-got-eq0 c = c.loop-hops.invariant.long ∙ c.begin-got.auto.working
-
-pub returns-else-got-eq0 : goal.returns-else-got-eq0
-returns-else-got-eq0 c = shelve_end c.begin-got.ensures c.loop-hops.invariant (inr (ne_eqb c.loop-hops.got.more 0 c.if-got-eq0.false))
-
-pub shape_of-index-after-loop-hops : goal.shape_of-index-after-loop-hops
-shape_of-index-after-loop-hops c = c.loop-hops.invariant.wide
-
-pub shape_of-working-after-loop-hops : goal.shape_of-working-after-loop-hops
-shape_of-working-after-loop-hops c = c.loop-hops.invariant.long ∙ c.begin-got.auto.working
-
-pub returns-after-loop-hops : goal.returns-after-loop-hops
-returns-after-loop-hops c = shelve_end c.begin-got.ensures c.loop-hops.invariant (inl c.loop-hops-test.false)
+pub returns-else-got : goal.returns-else-got
+returns-else-got c =
+    let row = c.by_first_person-got in
+    shelve_end refl refl c.begin-got.ensures (shelve_turn c.loop-hops.invariant c.loop-hops-test.true c.if-got.false row.ensures row.auto.index row.auto.working) (inl (omega (arith, c.loop-hops.invariant.at)))

@@ -1,11 +1,6 @@
 -- `fill` meets its contract. The loop's invariant: the rows of all persons so far are there.
-use Prim.Native.Nat.{◌-◌}
-use Rattle.compact.specs.Compact.{persons}
 use Rattle.question.proofs.Growing.{Filling}
 use Rattle.question.proofs.filling.fill.Given as goal
 
 abbrev pub invariant-loop-person : goal.invariant-loop-person
-invariant-loop-person l = Filling l.file l.counts l.question l.person l.end l.starts l.targets
-
-abbrev pub decreases-loop-person : goal.decreases-loop-person
-decreases-loop-person l = persons - l.person
+invariant-loop-person l = Filling l.fn.file l.question l.person l.end l.starts l.targets

@@ -1,9 +1,7 @@
--- `count` prints from the first digit that is no zero down: those below i are still to come.
+-- `count` prints from the first digit that is no zero down: those that the loop has left are still to come.
+use Rattle.std.proofs.Common.{◌+◌}
 use Rattle.text.proofs.Counting.{Counting}
 use Rattle.text.proofs.counts.count.Given as goal
 
-abbrev pub invariant-loop-i : goal.invariant-loop-i
-invariant-loop-i l = Counting l.counted l.initial.out l.at l.initial.i l.out l.i l.next
-
-abbrev pub decreases-loop-i : goal.decreases-loop-i
-decreases-loop-i l = l.i
+abbrev pub invariant-loop-value : goal.invariant-loop-value
+invariant-loop-value l = Counting l.counted l.initial.out l.at (l.first + 1) l.value-iterator.iter.rest.now l.out l.next

@@ -1,0 +1,2 @@
+-- Laws of this room: read behind read.
+pub mod OneMore
