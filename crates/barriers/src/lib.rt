@@ -7,7 +7,7 @@
 // back. How that is done is this room's own affair. `squeeze` shortens the trail: it leads back to the same barriers. The trail is lent, of any
 // length: while it is full no barrier is raised, and a search then takes longer and loses nothing.
 // Barriers and trail are lent side by side and not as one struct: what holds them is not this room's, and a struct of two references would be
-// made anew for each person who is left, with a clause more in every function that the references stay the same.
+// made anew for each person who is left, with a clause more in every function that the references stay the same; one that owns both would fix the trail's length here.
 #![tactic(auto)]
 
 ghost use Rattle.barriers.specs.Settling.{Settling, Settled};

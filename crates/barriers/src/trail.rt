@@ -18,7 +18,8 @@ fn restore(barriers: &mut [u8; PERSONS], entry: u16)
     barriers[e / HEIGHTS] = (e % HEIGHTS) as u8;
 }
 
-// Puts back the barriers that the trail has from `low` up to `high`, the last first.
+// Puts back the barriers that the trail has from `low` up to `high`, the last first. By places: what `Undoable` says of entries, it says of their
+// places.
 pub fn undo(barriers: &mut [u8; PERSONS], trail: &[u16], low: usize, high: usize)
     requires { Undoable barriers.old trail.now low high }
     ensures { barriers.new ≡ unwind (slice low high trail.now) barriers.old }

@@ -8,7 +8,8 @@
 ghost use Rattle.std.specs.Prelude.{◌≡◌, ◌+◌, ◌≤◌, length, drop};
 ghost use lib.Seq.{paste};
 
-// Copies `count` cells, those of `from` from its cell `first` on, to `out`, from cell `at` on.
+// Copies `count` cells, those of `from` from its cell `first` on, to `out`, from cell `at` on. Two places and a count, since that is what the
+// promise of pasting says.
 pub fn copy<T: Copy>(out: &mut [T], at: usize, from: &[T], first: usize, count: usize)
     requires { (at + count ≤ length out.old) × (first + count ≤ length from.now) }
     ensures { out.new ≡ paste out.old at (drop first from.now) count }

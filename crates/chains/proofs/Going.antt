@@ -25,7 +25,8 @@ use Rattle.listing.specs.EndToEnd.{last_record}
 use Rattle.portion.proofs.Instance.{fresh_chains, chains-listing}
 use Rattle.listing.proofs.Known.{Kept, portion_in_lem, last_kept}
 use Rattle.listing.proofs.Telling.{listed_first, listed_fits, listed_count, listed_ended, listed_cells, listed_length}
-use Rattle.text.specs.Decimal.{worth, digit_count, Digits}
+use Rattle.text.specs.Decimal.{worth, digit_count}
+use Rattle.text.specs.declared.counts.Counted.{Counted}
 use Rattle.text.specs.Lines.{chain_lines, chains_at, end_line, refusal_line, Records}
 use Rattle.text.proofs.Lining.{lines_append}
 use Rattle.text.proofs.Written.{chains-written, records_written}
@@ -46,7 +47,7 @@ ended_same e = cc
 same_count : {cells : List ℕ} {m n : ℕ} {a b : Bool} → listed m a ≡ listed n b → Records cells m → Records cells n
 same_count {cells} e r = subst (λ (count : ℕ). Records cells count) (count_same e) r
 
-module _ {file : List ℕ} {q : Question} {start : Start} {counted cells : List ℕ} (k : OnTheWay file q start counted cells) where
+module _ {file : List ℕ} {q : Question} {start : Start} {counted : Counted} {cells : List ℕ} (k : OnTheWay file q start counted cells) where
   -- on the way a portion is refused only for the file or the question
   way_fault : portion_fault file q start cells ≡ first_of (asked_fault file q) sound
   unfolding refusal_of
@@ -54,7 +55,7 @@ module _ {file : List ℕ} {q : Question} {start : Start} {counted cells : List 
 
   module _ {cells' : List ℕ} {answer : Told} (p : Portioned file q start cells cells' answer) where
     -- refused: that is all there is to print
-    pub way_refused : (start' : Start) (counted' : List ℕ) {refusal : Refusal} → answer ≡ Err refusal → WentOn file q start (worth counted) start' counted' cells' (answer_said answer)
+    pub way_refused : (start' : Start) (counted' : Counted) {refusal : Refusal} → answer ≡ Err refusal → WentOn file q start (worth counted.digits) start' counted' cells' (answer_said answer)
     way_refused start' counted' {refusal} is = record {
       refuses = λ e. text (asked_fault file q) (sym e ∙ p.answers ∙ rw way_fault);
       lists = λ e. absurd (differ (sym (ap answer_said is) ∙ e));
@@ -63,7 +64,7 @@ module _ {file : List ℕ} {q : Question} {start : Start} {counted cells : List 
       goes = λ e. absurd (differ (sym (ap answer_said is) ∙ e));
     }
       where
-        text : {r at : ℕ} (f : Fault) → refused r at ≡ answer_for (first_of f sound) (length (portion_for file q start cells)) (ended_for file q start cells) → text_for f (rest file q start) (worth counted) ≡ refusal_line r at
+        text : {r at : ℕ} (f : Fault) → refused r at ≡ answer_for (first_of f sound) (length (portion_for file q start cells)) (ended_for file q start cells) → text_for f (rest file q start) (worth counted.digits) ≡ refusal_line r at
         text sound e = let z : ◌≡◌ {A = ℕ} 0 1 = cc in absurd (omega arith)
         text {r} {at} (fault number place) e = let a : number ≡ r = cc in let b : place ≡ at = cc in rw (a, b)
 
@@ -91,10 +92,10 @@ module _ {file : List ℕ} {q : Question} {start : Start} {counted cells : List 
       way_chains = rw (way_many, way_cells) (chains-written (portion_for file q start cells) (drop (length (portion_for file q start cells) * record_size) cells) (listed_fits p said way_listing))
 
       -- forty digits are enough
-      pub way_counts : Digits counted × (worth counted + told.count < 10 ^ digit_count)
+      pub way_counts : worth counted.digits + told.count < 10 ^ digit_count
       way_counts =
           let few = length-take (room_of record_size (length cells)) (rest file q start) in
-          (k.digits, lt_of_le_of_lt (omega (arith, way_many, few, k.sum)) (count_fits file q way_asked))
+          lt_of_le_of_lt (omega (arith, way_many, few, k.sum)) (count_fits file q way_asked)
 
       -- where more follow, the portion fills its room
       way_more : told.ended ≡ false → room_of record_size (length cells) < length (rest file q start)
@@ -107,24 +108,24 @@ module _ {file : List ℕ} {q : Question} {start : Start} {counted cells : List 
       pub way_last : told.ended ≡ false → (1 ≤ told.count) × (told.count * record_size ≤ length cells')
       way_last e = (omega (arith, way_many, way_full e, k.room), omega (arith, way_many, way_full e, listed_length p said way_listing))
 
-      module _ {counted' : List ℕ} (d : Digits counted') (w : worth counted' ≡ worth counted + told.count) where
+      module _ {counted' : Counted} (w : worth counted'.digits ≡ worth counted.digits + told.count) where
         -- the last portion
-        pub way_ends : (start' : Start) → told.ended ≡ true → WentOn file q start (worth counted) start' counted' cells' (answer_said answer)
+        pub way_ends : (start' : Start) → told.ended ≡ true → WentOn file q start (worth counted.digits) start' counted' cells' (answer_said answer)
         way_ends start' e =
             let room = room_of record_size (length cells) in
             let R = rest file q start in
             let whole : take room R ≡ R = take_all room R (leb-true (length R) room (sym (listed_ended p said) ∙ e)) in
-            let all : worth counted' ≡ worth counted + length R = w ∙ ap (λ (n : ℕ). worth counted + n) (way_many ∙ ap length whole) in
+            let all : worth counted'.digits ≡ worth counted.digits + length R = w ∙ ap (λ (n : ℕ). worth counted.digits + n) (way_many ∙ ap length whole) in
             record {
               refuses = λ x. absurd (differ (sym x ∙ said));
               lists = λ x. same_count (sym said ∙ x) way_records;
-              ends = λ x. (d, rw (← count_same (sym said ∙ x), way_asked, way_chains, whole, all));
+              ends = λ x. rw (← count_same (sym said ∙ x), way_asked, way_chains, whole, all);
               kept = λ x. absurd (true≢false (sym e ∙ ended_same (sym said ∙ x)));
               goes = λ x. absurd (true≢false (sym e ∙ ended_same (sym said ∙ x)));
             }
 
         -- any other
-        pub way_on : {bookmark' : List ℕ} → told.ended ≡ false → bookmark' ≡ last_record told.count cells' → WentOn file q start (worth counted) (bookmarked bookmark') counted' cells' (answer_said answer)
+        pub way_on : {bookmark' : List ℕ} → told.ended ≡ false → bookmark' ≡ last_record told.count cells' → WentOn file q start (worth counted.digits) (bookmarked bookmark') counted' cells' (answer_said answer)
         way_on {bookmark'} e b =
             let room = room_of record_size (length cells) in
             let R = rest file q start in
@@ -136,7 +137,7 @@ module _ {file : List ℕ} {q : Question} {start : Start} {counted cells : List 
             (last_kept way_listing (starts_after start) P (drop (length P * record_size) cells) (omega (arith, full, k.room)) (λ c m. portion_in_lem L start cells m)) in
             let left : rest file q (bookmarked bookmark') ≡ drop room R = ap (λ (c : List ℕ). after c L) on.mark ∙ after-portion L way_listing.rises (starts_after start) room in
             let short = length-drop room R in
-            let same : worth counted' + length (drop room R) ≡ worth counted + length R = omega (arith, w, way_many, full, short) in
+            let same : worth counted'.digits + length (drop room R) ≡ worth counted.digits + length R = omega (arith, w, way_many, full, short) in
             let parts : chain_lines R ≡ chain_lines P ++ chain_lines (drop room R) = ap chain_lines (sym (take-append-drop room R)) ∙ lines_append P (drop room R) in
             record {
               refuses = λ x. absurd (differ (sym x ∙ said));
@@ -144,12 +145,12 @@ module _ {file : List ℕ} {q : Question} {start : Start} {counted cells : List 
               ends = λ x. absurd (true≢false (sym (ended_same (sym said ∙ x)) ∙ e));
               kept = λ x. ap bookmarked (rw (← count_same (sym said ∙ x)) b);
               goes = λ x. (
-                record { digits = d; room = omega (arith, listed_length p said way_listing, k.room); passing = on.passing; sum = rw left (same ∙ k.sum) },
-                rw (← count_same (sym said ∙ x), way_asked, way_chains, left, same) (ap (λ (t : List ℕ). t ++ end_line (worth counted + length R)) parts ∙ append_assoc (chain_lines P) (chain_lines (drop room R)) (end_line (worth counted + length R))),
+                record { room = omega (arith, listed_length p said way_listing, k.room); passing = on.passing; sum = rw left (same ∙ k.sum) },
+                rw (← count_same (sym said ∙ x), way_asked, way_chains, left, same) (ap (λ (t : List ℕ). t ++ end_line (worth counted.digits + length R)) parts ∙ append_assoc (chain_lines P) (chain_lines (drop room R)) (end_line (worth counted.digits + length R))),
                 omega (arith, count_same (sym said ∙ x), (way_last e).0),
               );
             }
 
 -- ---- the start: everything is to come
-pub way_starts : {file : List ℕ} {q : Question} {counted cells : List ℕ} → Digits counted → worth counted ≡ 0 → record_size ≤ length cells → OnTheWay file q fresh counted cells
-way_starts {file} {q} d w h = record { digits = d; room = h; passing = refl; sum = omega (arith, w, ap length (fresh_chains file q)) }
+pub way_starts : {file : List ℕ} {q : Question} {counted : Counted} {cells : List ℕ} → worth counted.digits ≡ 0 → record_size ≤ length cells → OnTheWay file q fresh counted cells
+way_starts {file} {q} w h = record { room = h; passing = refl; sum = omega (arith, w, ap length (fresh_chains file q)) }

@@ -10,7 +10,8 @@ use lib.Seq.{take_all}
 use Rattle.question.specs.declared.Question.{Question}
 use Rattle.std.proofs.Common.{Option, None, Ok, Err}
 use Rattle.refusals.specs.Answers.{Told, listed, answer_said}
-use Rattle.text.specs.Decimal.{worth, Digits}
+use Rattle.text.specs.Decimal.{worth}
+use Rattle.text.specs.declared.counts.Counted.{Counted}
 use Rattle.chains.specs.Program.{question_size, question_in, asks, heard_in}
 use Rattle.chains.specs.Onward.{next_start, to_come, OnTheWay, WentOn}
 use Rattle.chains.specs.Pieces.{to_print, Lined, Standing, Begins}
@@ -26,10 +27,10 @@ pub file_part : (input : List ℕ) → take (length input - question_size) (drop
 file_part input = take_all (length input - question_size) (drop question_size input) (omega (arith, length-drop question_size input))
 
 -- ---- the start
-pub begins : {progress : Progress} {counted : List ℕ} → progress.left ≡ code.TheVariants.Portion → progress.bookmark ≡ None → progress.counted ≡ counted → Digits counted → worth counted ≡ 0 → Begins progress
-begins {progress} {counted} l b c d w = record {
-  ready = λ input cells h. rw (l, b, c) (way_starts d w h);
-  all = λ input cells. rw (l, b, c, w, fresh_chains (drop question_size input) (question_in input));
+pub begins : {progress : Progress} → progress.left ≡ code.TheVariants.Portion → progress.bookmark ≡ None → worth progress.counted.digits ≡ 0 → Begins progress
+begins {progress} l b w = record {
+  ready = λ input cells h. rw (l, b) (way_starts w h);
+  all = λ input cells. rw (l, b, w, fresh_chains (drop question_size input) (question_in input));
 }
 
 -- ---- no portion comes next
@@ -39,33 +40,32 @@ module _ (input cells : List ℕ) (progress : Progress) (is : progress.left ≡ 
     pub look_long : question_size ≤ length input
     look_long = (asks_what input h).0
 
-    here : to_print input cells progress ≡ to_come (drop question_size input) (question_in input) (next_start progress.bookmark) (worth progress.counted)
+    here : to_print input cells progress ≡ to_come (drop question_size input) (question_in input) (next_start progress.bookmark) (worth progress.counted.digits)
     here = rw (is, le-ltb (length input) question_size look_long)
 
     pub look_on : Standing input cells progress → OnTheWay (take (length input - question_size) (drop question_size input)) q (next_start progress.bookmark) progress.counted cells
     look_on r = rw (file_part input, (asks_what input h).1) (rw is at r)
 
-    module _ {bookmark' : Option (List ℕ)} {counted' cells' : List ℕ} where
+    module _ {bookmark' : Option (List ℕ)} {counted' : Counted} {cells' : List ℕ} where
       -- the portion has chains, or none
-      lists : {count : ℕ} (ended : Bool) → WentOn (drop question_size input) (question_in input) (next_start progress.bookmark) (worth progress.counted) (next_start bookmark') counted' cells' (listed count ended)
+      lists : {count : ℕ} (ended : Bool) → WentOn (drop question_size input) (question_in input) (next_start progress.bookmark) (worth progress.counted.digits) (next_start bookmark') counted' cells' (listed count ended)
           → LookedAhead input cells progress cells' (record { left = code.TheVariants.Lines 0 count ended; bookmark = bookmark'; counted = counted' })
       lists {count} true on =
           let whole : count - 0 ≡ count = omega arith in
-          let ends = on.ends refl in
-          let lined : Lined counted' cells' 0 count true = record { to = omega arith; records = on.lists refl; digits = ends.0; some = λ x. absurd (true≢false x) } in
-          record { same = here ∙ ends.1 ∙ rw whole; ready = (lined, λ x. absurd (true≢false x)); printable = lined }
+          let lined : Lined cells' 0 count true = record { to = omega arith; records = on.lists refl; some = λ x. absurd (true≢false x) } in
+          record { same = here ∙ on.ends refl ∙ rw whole; ready = (lined, λ x. absurd (true≢false x)); printable = lined }
       lists {count} false on =
           let whole : count - 0 ≡ count = omega arith in
           let goes = on.goes refl in
-          let lined : Lined counted' cells' 0 count false = record { to = omega arith; records = on.lists refl; digits = goes.0.digits; some = λ x. omega (arith, goes.2) } in
+          let lined : Lined cells' 0 count false = record { to = omega arith; records = on.lists refl; some = λ x. omega (arith, goes.2) } in
           record { same = here ∙ goes.1 ∙ rw (whole, le-ltb (length input) question_size look_long); ready = (lined, λ x. goes.0); printable = lined }
 
       -- it was asked for: its lines come next, or its refusal's
-      pub look_answered : {left' : code.Left} (a : Told) → WentOn (take (length input - question_size) (drop question_size input)) q (next_start progress.bookmark) (worth progress.counted) (next_start bookmark') counted' cells' (answer_said a)
+      pub look_answered : {left' : code.Left} (a : Told) → WentOn (take (length input - question_size) (drop question_size input)) q (next_start progress.bookmark) (worth progress.counted.digits) (next_start bookmark') counted' cells' (answer_said a)
           → left' ≡ left_by a → LookedAhead input cells progress cells' (record { left = left'; bookmark = bookmark'; counted = counted' })
       look_answered a went l = rw l (go a (rw (file_part input, (asks_what input h).1) at went))
         where
-          go : (a : Told) → WentOn (drop question_size input) (question_in input) (next_start progress.bookmark) (worth progress.counted) (next_start bookmark') counted' cells' (answer_said a)
+          go : (a : Told) → WentOn (drop question_size input) (question_in input) (next_start progress.bookmark) (worth progress.counted.digits) (next_start bookmark') counted' cells' (answer_said a)
               → LookedAhead input cells progress cells' (record { left = left_by a; bookmark = bookmark'; counted = counted' })
           go (Ok told) on = lists told.ended on
           go (Err refusal) on = record { same = here ∙ on.refuses refl; ready = tt; printable = tt }

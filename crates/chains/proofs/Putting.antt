@@ -40,19 +40,19 @@ module _ (cells : List ℕ) (progress : Progress) where
       → piece ≡ piece_of progress bytes code.TheVariants.Nothing → PutPiece cells progress out' piece
   put_refusal {refusal} left = put_all (λ input. rw left) (refusal_some (number_of refusal.reason) refusal.place)
 
-  pub put_lined : {next count : ℕ} {ended : Bool} → progress.left ≡ code.TheVariants.Lines next count ended → Printable cells progress → Lined progress.counted cells next count ended
+  pub put_lined : {next count : ℕ} {ended : Bool} → progress.left ≡ code.TheVariants.Lines next count ended → Printable cells progress → Lined cells next count ended
   put_lined left ok = rw left at ok
 
   -- ---- the lines come next
-  module _ {next count : ℕ} {ended : Bool} (left : progress.left ≡ code.TheVariants.Lines next count ended) (ok : Lined progress.counted cells next count ended) where
+  module _ {next count : ℕ} {ended : Bool} (left : progress.left ≡ code.TheVariants.Lines next count ended) (ok : Lined cells next count ended) where
     -- behind the lines up to a record
     behind_text : (input : List ℕ) {n : ℕ} → n ≤ count
-        → left_text input progress.bookmark progress.counted cells (left_behind n count ended) ≡ chain_lines (chains_at cells n (count - n)) ++ behind_portion input progress.bookmark (worth progress.counted) ended
+        → left_text input progress.bookmark progress.counted cells (left_behind n count ended) ≡ chain_lines (chains_at cells n (count - n)) ++ behind_portion input progress.bookmark (worth progress.counted.digits) ended
     unfolding chains_at chain_lines
     behind_text input {n} h = go (ltb n count) refl ended
       where
         go : (t : Bool) → ltb n count ≡ t → (e : Bool)
-            → left_text input progress.bookmark progress.counted cells (left_behind n count e) ≡ chain_lines (chains_at cells n (count - n)) ++ behind_portion input progress.bookmark (worth progress.counted) e
+            → left_text input progress.bookmark progress.counted cells (left_behind n count e) ≡ chain_lines (chains_at cells n (count - n)) ++ behind_portion input progress.bookmark (worth progress.counted.digits) e
         go true t e = rw t
         go false t true = rw t
         go false t false = let none : count - n ≡ 0 = omega (arith, ltb-false n count t) in rw (t, none)
@@ -63,17 +63,17 @@ module _ (cells : List ℕ) (progress : Progress) where
       where
         go : (t : Bool) → ltb n count ≡ t → (e : Bool) → (e ≡ false → GoesOn input (next_start progress.bookmark) progress.counted cells)
             → Ready input progress.bookmark progress.counted cells (left_behind n count e)
-        go true t e on = rw t (record { to = h; records = ok.records; digits = ok.digits; some = λ x. ltb-true n count t }, on)
-        go false t true on = rw t (record { to = h; records = ok.records; digits = ok.digits; some = λ x. absurd (let z : ◌≡◌ {A = ℕ} 0 1 = cc in omega arith) }, on)
+        go true t e on = rw t (record { to = h; records = ok.records; some = λ x. ltb-true n count t }, on)
+        go false t true on = rw t (record { to = h; records = ok.records; some = λ x. absurd (let z : ◌≡◌ {A = ℕ} 0 1 = cc in omega arith) }, on)
         go false t false on = rw t (on refl)
 
     -- the last line
-    pub put_end : {out out' : List ℕ} {bytes : ℕ} {piece : Piece} → count ≤ next → Printed out 0 (end_line (worth progress.counted)) out' bytes → bytes ≤ length out
+    pub put_end : {out out' : List ℕ} {bytes : ℕ} {piece : Piece} → count ≤ next → Printed out 0 (end_line (worth progress.counted.digits)) out' bytes → bytes ≤ length out
         → piece ≡ piece_of progress bytes code.TheVariants.Nothing → PutPiece cells progress out' piece
     unfolding chains_at chain_lines
-    put_end h = put_all (λ input. ap (left_text input progress.bookmark progress.counted cells) left ∙ last input ended ok.some) (end_some (worth progress.counted))
+    put_end h = put_all (λ input. ap (left_text input progress.bookmark progress.counted cells) left ∙ last input ended ok.some) (end_some (worth progress.counted.digits))
       where
-        last : (input : List ℕ) (t : Bool) → (t ≡ false → next < count) → left_text input progress.bookmark progress.counted cells (code.TheVariants.Lines next count t) ≡ end_line (worth progress.counted)
+        last : (input : List ℕ) (t : Bool) → (t ≡ false → next < count) → left_text input progress.bookmark progress.counted cells (code.TheVariants.Lines next count t) ≡ end_line (worth progress.counted.digits)
         last input true some = let none : count - next ≡ 0 = omega arith in rw none
         last input false some = absurd (omega (arith, some refl))
 
@@ -83,7 +83,7 @@ module _ (cells : List ℕ) (progress : Progress) where
     put_lines {out} {out'} {reached} {after} h room p behind is = rw is (record {
       next = λ input r. record {
         within = omega (arith, printed-length p.lines, p.within);
-        text = ap (left_text input progress.bookmark progress.counted cells) left ∙ parts (behind_portion input progress.bookmark (worth progress.counted) ended)
+        text = ap (left_text input progress.bookmark progress.counted cells) left ∙ parts (behind_portion input progress.bookmark (worth progress.counted.digits) ended)
             ∙ sym (ap (λ (t : List ℕ). take reached.bytes out' ++ t) (ap (left_text input progress.bookmark progress.counted cells) behind ∙ behind_text input p.to));
         empty = λ e. absurd (omega (arith, p.lines.place, lines_some cells next (reached.next - next) (omega (arith, reach_moves p h room))));
         ready = rw behind (behind_ready input p.to (rw left at r));

@@ -7,14 +7,14 @@ use Rattle.chains.specs.declared.progress.Progress.{Progress}
 use Rattle.chains.specs.declared.pieces.Piece.{Piece}
 
 -- what is left can be printed at once: no portion has to be asked for first
-abbrev pub AtOnce : List ℕ → List ℕ → code.Left → Type 0
-AtOnce counted cells code.TheVariants.Portion = ⊥
-AtOnce counted cells (code.TheVariants.Lines next count ended) = Lined counted cells next count ended
-AtOnce counted cells (code.TheVariants.Refusal refusal) = Unit {0}
-AtOnce counted cells code.TheVariants.Nothing = Unit {0}
+abbrev pub AtOnce : List ℕ → code.Left → Type 0
+AtOnce cells code.TheVariants.Portion = ⊥
+AtOnce cells (code.TheVariants.Lines next count ended) = Lined cells next count ended
+AtOnce cells (code.TheVariants.Refusal refusal) = Unit {0}
+AtOnce cells code.TheVariants.Nothing = Unit {0}
 
 abbrev pub Printable : List ℕ → Progress → Type 0
-Printable cells progress = AtOnce progress.counted cells progress.left
+Printable cells progress = AtOnce cells progress.left
 
 -- looking ahead leaves what is still to be printed as it was
 pub record LookedAhead (input cells : List ℕ) (progress : Progress) (cells' : List ℕ) (seen : Progress) : Type 0 where

@@ -3,8 +3,9 @@ use Rattle.std.specs.Prelude.{◌≡◌, List, [], ◌∷◌, ◌++◌, Bool, tr
 use Rattle.ways.specs.Sizes.{record_size}
 use Rattle.listing.specs.Portions.{Start}
 use Rattle.refusals.specs.Reasons.{number_of}
-use Rattle.text.specs.Decimal.{worth, Digits}
+use Rattle.text.specs.Decimal.{worth}
 use Rattle.text.specs.Lines.{chain_lines, chains_at, end_line, refusal_line, Records}
+use Rattle.text.specs.declared.counts.Counted.{Counted}
 use Rattle.chains.specs.Program.{question_size, question_in, printed}
 use Rattle.chains.specs.Onward.{next_start, to_come, OnTheWay}
 use Rattle.chains.specs.declared.progress.Left as code
@@ -22,27 +23,26 @@ behind_portion input bookmark before true = end_line before
 behind_portion input bookmark before false = from_start input (next_start bookmark) before
 
 -- what is still to be printed, in each case of the code's enum
-abbrev pub left_text : List ℕ → Option (List ℕ) → List ℕ → List ℕ → code.Left → List ℕ
-left_text input bookmark counted cells code.TheVariants.Portion = from_start input (next_start bookmark) (worth counted)
+abbrev pub left_text : List ℕ → Option (List ℕ) → Counted → List ℕ → code.Left → List ℕ
+left_text input bookmark counted cells code.TheVariants.Portion = from_start input (next_start bookmark) (worth counted.digits)
 left_text input bookmark counted cells (code.TheVariants.Lines next count ended) =
-    chain_lines (chains_at cells next (count - next)) ++ behind_portion input bookmark (worth counted) ended
+    chain_lines (chains_at cells next (count - next)) ++ behind_portion input bookmark (worth counted.digits) ended
 left_text input bookmark counted cells (code.TheVariants.Refusal refusal) = refusal_line (number_of refusal.reason) refusal.place
 left_text input bookmark counted cells code.TheVariants.Nothing = []
 
 -- the lines from a record on can be printed: the cells hold the records, and where more portions follow there is a line
-pub record Lined (counted cells : List ℕ) (next count : ℕ) (ended : Bool) : Type 0 where
+pub record Lined (cells : List ℕ) (next count : ℕ) (ended : Bool) : Type 0 where
   pub to : next ≤ count
   pub records : Records cells count
-  pub digits : Digits counted
   pub some : ended ≡ false → next < count
 
 -- what is left can be printed: a portion that comes next, or behind the lines, goes on from the bookmark
-abbrev pub GoesOn : List ℕ → Start → List ℕ → List ℕ → Type 0
+abbrev pub GoesOn : List ℕ → Start → Counted → List ℕ → Type 0
 GoesOn input start counted cells = OnTheWay (drop question_size input) (question_in input) start counted cells
 
-abbrev pub Ready : List ℕ → Option (List ℕ) → List ℕ → List ℕ → code.Left → Type 0
+abbrev pub Ready : List ℕ → Option (List ℕ) → Counted → List ℕ → code.Left → Type 0
 Ready input bookmark counted cells code.TheVariants.Portion = GoesOn input (next_start bookmark) counted cells
-Ready input bookmark counted cells (code.TheVariants.Lines next count ended) = Lined counted cells next count ended × (ended ≡ false → GoesOn input (next_start bookmark) counted cells)
+Ready input bookmark counted cells (code.TheVariants.Lines next count ended) = Lined cells next count ended × (ended ≡ false → GoesOn input (next_start bookmark) counted cells)
 Ready input bookmark counted cells (code.TheVariants.Refusal refusal) = Unit {0}
 Ready input bookmark counted cells code.TheVariants.Nothing = Unit {0}
 

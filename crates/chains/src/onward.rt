@@ -9,17 +9,14 @@ ghost use Rattle.chains.specs.Onward.{OnTheWay, WentOn, next_start};
 
 use question::Question;
 use refusals::{Answer, Listed};
-use text::counts::{DIGITS, count_on};
+use text::counts::Counted;
 use ways::RECORD;
 
 // Where the next portion starts: behind the bookmark, or afresh where there is none.
 fn start(bookmark: &Option<[u32; RECORD]>) -> Option<&[u32]>
     ensures { start_given result ≡ next_start bookmark.now }
 {
-    match bookmark {
-        Some(record) => Some(record),
-        None => None,
-    }
+    bookmark.as_ref().map(|record| &record[..])
 }
 
 // The last of so many records.
@@ -35,17 +32,17 @@ pub fn go_on(
     file: &[u8],
     question: Question,
     bookmark: &mut Option<[u32; RECORD]>,
-    counted: &mut [u8; DIGITS],
+    counted: &mut Counted,
     cells: &mut [u32],
 ) -> Answer
     requires { OnTheWay file.now question (next_start bookmark.old) counted.old cells.old }
-    ensures { WentOn file.now question (next_start bookmark.old) (worth counted.old) (next_start bookmark.new) counted.new cells.new (answer_said result) }
+    ensures { WentOn file.now question (next_start bookmark.old) (worth counted.old.digits) (next_start bookmark.new) counted.new cells.new (answer_said result) }
 {
     let answer = portion::portion(file, question, start(bookmark), cells);
     let Ok(Listed { count, ended }) = answer else {
         return answer;
     };
-    count_on(counted, count);
+    counted.count_on(count);
     if !ended {
         *bookmark = Some(last_record(cells, count));
     }

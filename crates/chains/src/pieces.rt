@@ -11,7 +11,7 @@ ghost use Rattle.chains.specs.Inside.{Printable, PutPiece, piece_of, left_behind
 use crate::ahead::look_ahead;
 use crate::progress::{Left, Progress};
 
-// So many bytes were put, and how far the printing is behind them.
+// So many bytes were put, none where nothing is left, and how far the printing is behind them.
 #[derive(Clone, Copy)]
 pub struct Piece {
     pub bytes: usize,

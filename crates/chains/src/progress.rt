@@ -2,7 +2,7 @@
 ghost use Rattle.chains.specs.Pieces.{Begins};
 
 use refusals::Refusal;
-use text::counts::DIGITS;
+use text::counts::Counted;
 use ways::RECORD;
 
 // What is still to be printed.
@@ -26,7 +26,7 @@ pub enum Left {
 pub struct Progress {
     pub left: Left,
     pub bookmark: Option<[u32; RECORD]>,
-    pub counted: [u8; DIGITS],
+    pub counted: Counted,
 }
 
 // Everything is still to be printed.
@@ -36,6 +36,6 @@ pub fn begin() -> Progress
     Progress {
         left: Left::Portion,
         bookmark: None,
-        counted: [0; DIGITS],
+        counted: Counted::nothing(),
     }
 }

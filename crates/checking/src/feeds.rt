@@ -49,7 +49,7 @@ fn feed_fault(file: LinkFile<'_>, number: usize) -> Result<(), Refusal>
     )
 }
 
-// The first fault of the feed table.
+// The first fault of the feed table. A loop of three lines, here and over the rows: `try_for_each` says the same in as many.
 pub fn feeds_fault(file: LinkFile<'_>) -> Result<(), Refusal>
     ensures { fault_said result ≡ first_among (feed_fault file.entry.bytes.now) 0 (feed_count file.entry.bytes.now) }
 {

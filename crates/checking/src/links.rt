@@ -53,7 +53,8 @@ pub fn link_fault(
     unless(link.day <= LAST_DAY, Reason::Day, place)
 }
 
-// The first fault of the link table. Both loops are left at the first fault.
+// The first fault of the link table. Both loops are left at the first fault, from inside, as the document has it: so the refusal is carried out
+// of them, and not handed up by `?`.
 pub fn links_fault(file: LinkFile<'_>) -> Result<(), Refusal>
     requires { Rowed file.bytes.now }
     ensures { fault_said result ≡ first_among (owned_fault file.entry.bytes.now) 0 (person_count file.entry.bytes.now) }

@@ -1,4 +1,4 @@
--- The compact graph. Definitions only.
+-- The compact graph. Definitions, and that there is one way at most in which arrays are well formed.
 -- "Person p owns links row[p] up to but without row[p+1]." "In one row the targets strictly rise"
 use Rattle.std.specs.Prelude.{◌≡◌, List, [], ◌∷◌, ℕ, suc, ◌+◌, ◌≤◌, ◌<◌, length, get_or}
 use Rattle.std.proofs.Math.Seq.{slice}

@@ -16,8 +16,8 @@ pub fn marked(file: &[u8]) -> bool
     HEADER <= file.len() && file.starts_with(b"KLF1")
 }
 
-// Bytes that reach as far as a header, and so have its numbers. That the counts fit is asked apart: a second type for it would be made in one
-// place alone.
+// Bytes that reach as far as a header, and so have its numbers. That the counts fit is asked apart, in three
+// clauses: a type for it would be made and taken apart by the check alone, and be no plainer.
 #[derive(Clone, Copy)]
 pub struct Header<'a> {
     pub bytes: &'a [u8],

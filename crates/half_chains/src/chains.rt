@@ -30,12 +30,12 @@ pub fn gather(
         }
         let left = (length + 1) / 2;
         let tracing = Tracing {
-            graph: graph,
-            halves: halves,
-            index: index,
+            graph,
+            halves,
+            index,
             to: sought.to,
             rest: length - left,
-            room: room,
+            room,
             purpose: Purpose::Write,
         };
         let alone = Trace::alone(from, left);

@@ -73,13 +73,13 @@ pub fn shelve(
     let mut marks = [false; PERSONS];
     marks[from] = true;
     let tracing = Tracing {
-        graph: graph,
+        graph,
         halves: &[],
         index: &[],
         to: sought.to,
         rest: 0,
         room: working.len() / RECORD,
-        purpose: purpose,
+        purpose,
     };
     let persons = sought.persons;
     let mut got = begin(&tracing, &mut marks, working, 0, sought.to, NOTHING);

@@ -13,5 +13,6 @@ use compact::STARTS;
 use ways::HOPS;
 
 // The index of the half chains that have a hop, and at most half of all: a row for each number of hops, with a start for each first
-// person and the end of the last, one behind the other, so that it is lent in one piece.
+// person and the end of the last, one row behind the other, as `place_of` counts them: nested arrays would be
+// looked up in two steps and say the same.
 pub const INDEX: usize = HOPS / 2 * STARTS;

@@ -29,6 +29,7 @@ fn join_graph(graph: Graph<'_>, sought: Sought, working: &mut [u32], out: &mut [
     unless(!counted.more, Reason::Working, 0)?;
     halves::shelve(graph, &mut index, working, sought, Purpose::Write);
     let found = chains::gather(graph, working, &index, out, sought);
+    // As in `starting`, of this list.
     Ok(Listed {
         count: found.count,
         ended: !found.more,

@@ -1,7 +1,8 @@
 // The library as C and Rust see it: the exported functions, and how an answer is put into one number.
 //
 // Every function is total: any bytes, any numbers. Each is a thin face over one public operation of the rooms below, and its
-// contract is that operation's answer in the encoding of specs/. A refusal is 2^63 + number * 2^32 + place.
+// contract is that operation's answer in the encoding of specs/. A refusal is 2^63 + number * 2^32 + place. C hands over plain numbers, a
+// question as eight and a start as a mark and cells: `encoding` and `listing::start` make values of them.
 //
 // A library exports nothing: the symbols are those of the static library over it, `outside_c`.
 #![tactic(auto)]

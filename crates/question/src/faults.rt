@@ -21,12 +21,12 @@ fn ends_fault(persons: usize, question: Question) -> Result<(), Refusal>
     unless((question.to as usize) < persons, Reason::Person, 1)
 }
 
-// The days of the question make a window. Three tests and no range: two of them are of different days.
+// The days of the question make a window.
 #[tactic(auto, unfolding(crate::specs::Asked::days_fit))]
 fn days_fit(question: Question) -> bool
     ensures { result ≡ days_fit question }
 {
-    1 <= question.first && question.last <= LAST_DAY && question.first <= question.last
+    1 <= question.first && (question.first..=LAST_DAY).contains(&question.last)
 }
 
 // From and To are two persons for chains, and one for rings.
@@ -70,7 +70,8 @@ pub fn question_fault(persons: usize, question: Question, wanted: Wanted) -> Res
     rest_fault(question, wanted)
 }
 
-// The same where the question names one person more, who is looked at after From and To.
+// The same where the question names one person more, who is looked at after From and To: one function with a person or none would ask each time
+// which.
 #[tactic(auto, using(crate::proofs::Refused::ends_first), unfolding(crate::specs::Asked::person_fault))]
 pub fn person_fault(persons: usize, question: Question, person: u32) -> Result<(), Refusal>
     ensures { fault_said result ≡ person_fault persons question person }

@@ -33,7 +33,8 @@ fn append(
 }
 
 // Fills row starts and targets from a file that has passed, so that, read back, they are `next`. Whoever is not in the file has an empty
-// row behind the others, so that a reader needs no person count.
+// row behind the others, so that a reader needs no person count. The arrays are the caller's: a graph over arrays of this function's own could
+// not be handed back, and to hand back the arrays would copy them.
 pub fn fill(file: &[u8], question: Question, starts: &mut [u16], targets: &mut [u16])
     requires { Fillable file.now starts.old targets.old }
     ensures { Filled file.now question starts.new targets.new }

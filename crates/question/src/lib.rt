@@ -31,7 +31,8 @@ pub struct Question {
     pub undated: u32,
 }
 
-// What a question is asked for: the chains from one person to another, or the rings back to the same person.
+// What a question is asked for: the chains from one person to another, or the rings back to the same person. It decides one test, so it is a
+// value and no step to run.
 #[derive(Clone, Copy)]
 pub enum Wanted {
     Chains,
@@ -47,7 +48,7 @@ fn asked(file: &[u8], question: Question, wanted: Wanted) -> Result<(), Refusal>
     faults::question_fault(counts.persons, question, wanted)
 }
 
-// The same where the question names one person more, as fewest hops does.
+// The same where the question names one person more, as fewest hops does. What follows the check is all that differs.
 #[tactic(auto, using(checking::proofs::Passed::passed_verdict, checking::proofs::Passed::refused_verdict))]
 pub fn asked_of(file: &[u8], question: Question, person: u32) -> Result<(), Refusal>
     ensures { fault_said result ≡ asked_of_fault file.now question person }

@@ -1,5 +1,6 @@
-// Handing over a chain: its record is written to the output, or it is the one more for which there is no room. `traces` hands over likewise, what
-// is only counted too, with a right half behind: what both share is in `pages`.
+// Handing over a chain: its record is written to the output, or it is the one more for which there is no room. `traces` has a function of its own
+// for what it hands over, which may be counted only and has a right half behind it; what both share is in `pages`, and one for both would ask
+// each chain which it is.
 ghost use Rattle.search.specs.HandingOver.{Room, Handed};
 
 use crate::walk::Walk;

@@ -7,7 +7,8 @@ use compact::{Graph, PERSONS};
 use ways::RECORD;
 
 // What a search goes by, and what it notes on its way: the graph and the question; whom the chain has, and each person's barrier; the
-// chain, with its persons from cell 1 on; the trail back from the barriers, and how many entries it has; and the chains handed over.
+// chain, with its persons from cell 1 on; the trail back from the barriers, and how many entries it has; and the chains handed over. Memory is
+// fixed, so chain and trail are arrays: where a chain stands goes with each step (`Stand`), since it ends with it.
 #[derive(Drop)]
 pub struct Walk<'a> {
     pub graph: Graph<'a>,

@@ -22,7 +22,8 @@ fn leads(graph: Graph<'_>, person: u32, next: u32) -> bool
             .any(|target| u32::from(*target) == next)
 }
 
-// Whether the persons run on from one to the next by links, nobody twice, to the end person.
+// Whether the persons run on from one to the next by links, nobody twice, to the end person. By places: each is held against the next and against
+// all behind.
 fn run(graph: Graph<'_>, way: &[u32], to: u32) -> bool
     requires { 1 ≤ length way.now }
     ensures { result ≡ runs (graph_of graph.entry.starts.now graph.entry.targets.now) to way.now }

@@ -58,6 +58,7 @@ pub fn list(file: &[u8], question: Question, start: Option<&[u32]>, out: &mut [u
         start,
         out,
     );
+    // Said here and in the join, each of its own list: a conversion would say it in as many words.
     Ok(Listed {
         count: found.count,
         ended: !found.more,

@@ -9,11 +9,11 @@ pub mod counts;
 pub mod numbers;
 
 ghost use Rattle.std.specs.Prelude.{◌+◌, ◌≤◌, ◌<◌, length};
-ghost use Rattle.text.specs.Decimal.{worth, Digits};
+ghost use Rattle.text.specs.Decimal.{worth};
 ghost use Rattle.text.specs.Lines.{RecordAt, Records, chain_at, chain_line, end_line, refusal_line};
 ghost use Rattle.text.specs.Printed.{Printed, LinesReach, longest_line};
 
-use counts::DIGITS;
+use counts::Counted;
 use ways::{HOPS, RECORD};
 
 // The most bytes of a chain's line: a digit, a colon, nine persons of ten digits with a space in front, LF.
@@ -73,17 +73,17 @@ pub fn lines(cells: &[u32], first: usize, count: usize, out: &mut [u8]) -> Reach
 }
 
 // The last line of a listing.
-pub fn end_line(counted: &[u8; DIGITS], out: &mut [u8]) -> usize
-    requires { (Digits counted.now) × (longest_line ≤ length out.old) }
-    ensures { (Printed out.old 0 (end_line (worth counted.now)) out.new result) × (result ≤ longest_line) }
+pub fn end_line(counted: &Counted, out: &mut [u8]) -> usize
+    requires { longest_line ≤ length out.old }
+    ensures { (Printed out.old 0 (end_line (worth counted.now.digits)) out.new result) × (result ≤ longest_line) }
 {
     let next = put(b"end ", out, 0);
-    let last = counts::count(counted, out, next);
+    let last = counted.count(out, next);
     out[last] = b'\n';
     last + 1
 }
 
-// The one line of a refusal.
+// The one line of a refusal, by its number, which is what is printed.
 pub fn refusal_line(number: u32, place: u32, out: &mut [u8]) -> usize
     requires { longest_line ≤ length out.old }
     ensures { (Printed out.old 0 (refusal_line number place) out.new result) × (result ≤ longest_line) }

@@ -1,4 +1,4 @@
--- The right halves by their index, as it is lent with them. Definitions only.
+-- The right halves by their index, as it is lent with them: definitions, and that there is one way at most in which they are indexed.
 use Rattle.std.specs.Prelude.{◌≡◌, ℕ, List, suc, ◌+◌, ◌-◌, ◌*◌, ◌≤◌, ◌<◌, length, get_or}
 use denote.Struct.Props as known
 use Rattle.ways.specs.Sizes.{record_size}

@@ -32,10 +32,7 @@ pub fn hand_over(
 {
     let count = before.count;
     if count >= tracing.room {
-        return HandedOver {
-            count: count,
-            more: true,
-        };
+        return HandedOver { count, more: true };
     }
     if let Purpose::Write = tracing.purpose {
         let at = count * RECORD;

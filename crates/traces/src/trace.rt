@@ -27,9 +27,9 @@ impl Trace {
         let mut chain = [0; RECORD];
         chain[1] = person as u32;
         Trace {
-            chain: chain,
+            chain,
             len: 1,
-            left: left,
+            left,
             last: person,
         }
     }

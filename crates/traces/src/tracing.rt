@@ -4,7 +4,8 @@ ghost use Rattle.traces.specs.Indexed.{Indexed, Indexed_prop};
 
 use compact::Graph;
 
-// What sequences are traced for: to be counted only, or to be written as records.
+// What sequences are traced for: to be counted only, or to be written as records. It decides one test for each chain, which a closure would be
+// called for.
 #[derive(Clone, Copy)]
 pub enum Purpose {
     Count,

@@ -10,8 +10,8 @@ count_on-requires c = rw c.in-Ok.is (way_counts c.requires (rw c.start.ensures a
 
 pub returns-then-not-ended : goal.returns-then-not-ended
 returns-then-not-ended c =
-    way_on c.requires (rw c.start.ensures at c.portion-answer.ensures) c.in-Ok.is c.count_on.ensures.0 (rw c.in-Ok.is at c.count_on.ensures.1) (rw c.in-Ok.is at c.if-not-ended.true) (rw c.in-Ok.is at c.last_record.ensures)
+    way_on c.requires (rw c.start.ensures at c.portion-answer.ensures) c.in-Ok.is (rw c.in-Ok.is at c.count_on.ensures) (rw c.in-Ok.is at c.if-not-ended.true) (rw c.in-Ok.is at c.last_record.ensures)
 
 pub returns-else-not-ended : goal.returns-else-not-ended
 returns-else-not-ended c =
-    way_ends c.requires (rw c.start.ensures at c.portion-answer.ensures) c.in-Ok.is c.count_on.ensures.0 (rw c.in-Ok.is at c.count_on.ensures.1) _ (rw c.in-Ok.is at c.if-not-ended.false)
+    way_ends c.requires (rw c.start.ensures at c.portion-answer.ensures) c.in-Ok.is (rw c.in-Ok.is at c.count_on.ensures) _ (rw c.in-Ok.is at c.if-not-ended.false)

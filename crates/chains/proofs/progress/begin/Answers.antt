@@ -1,8 +1,7 @@
 -- `begin` meets its contract: nothing is counted, and the start is fresh.
 use mathlib.Core.Path.{refl}
-use Rattle.text.proofs.Counting.{none_counted, none_worth}
 use Rattle.chains.proofs.Looking.{begins}
 use Rattle.chains.proofs.progress.begin.Goals as goal
 
 pub returns : goal.returns
-returns c = begins refl refl refl none_counted none_worth
+returns c = begins refl refl c.nothing.ensures
