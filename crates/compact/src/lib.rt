@@ -1,7 +1,8 @@
 // The compact graph: all that listing and searching see of a link file once a file and a question have passed.
 // Row starts and targets stand in two arrays of 16-bit cells. Person p has the targets from cell starts[p] up to but
 // without cell starts[p + 1]: the persons that p's admitted links lead to, strictly rising. specs/ says how the arrays
-// are read as a function from a person to persons (`graph_of`), and when they are well formed (`Compact`): of every `Graph` they are.
+// are read as a function from a person to persons (`graph_of`, and `links_of` of a `Graph`), and when they are well formed (`Compact`):
+// of every `Graph` they are.
 // `question` fills the arrays, and every room that goes by links reads them through `Graph`.
 #![tactic(auto)]
 

@@ -1,6 +1,7 @@
 // The distance table, breadth-first towards To: by rounds, each one hop farther than the last.
 ghost use Rattle.std.specs.Prelude.{◌≡◌, ◌<◌};
-ghost use Rattle.compact.specs.Compact.{persons, graph_of};
+ghost use Rattle.compact.specs.Compact.{persons};
+ghost use Rattle.compact.specs.Links.{links_of};
 ghost use Rattle.distance.specs.Table.{Table, Stepped, anybody};
 ghost use Rattle.distance.specs.Inside.{Readable, Rounding};
 
@@ -9,7 +10,7 @@ use compact::{Graph, PERSONS};
 // Whether a person has a link to somebody whose cell holds `hops`.
 fn leads(graph: Graph<'_>, cells: &[u8; PERSONS], person: usize, hops: u8) -> bool
     requires { person < persons }
-    ensures { result ≡ anybody cells.now hops (graph_of graph.entry.starts.now graph.entry.targets.now person) }
+    ensures { result ≡ anybody cells.now hops (links_of graph.entry person) }
 {
     graph
         .next(person)

@@ -24,7 +24,8 @@ use Rattle.pages.specs.declared.HandedOver.{HandedOver}
 use Rattle.pages.proofs.Handing.{emits-append, emits_more, emits_counted}
 use Rattle.traces.specs.Indexed.{place_of, Indexed}
 use Rattle.traces.specs.HandingOver.{page, writes}
-use Rattle.traces.specs.Traces.{links_of, alone, ending_at, Ready, Extended}
+use Rattle.compact.specs.Links.{links_of}
+use Rattle.traces.specs.Traces.{alone, ending_at, Ready, Extended}
 use Rattle.traces.specs.declared.tracing.Purpose.TheVariants.{Write}
 use Rattle.traces.specs.declared.tracing.Tracing.{Tracing}
 use Rattle.half_chains.specs.Shelf.{nothing, Begun, halves_from, halves_below, First, Firsts, halves_of, shelf_of, from_marked, Shelve, Shelved, from_one, ways_of, Gather, Gathered}

@@ -27,7 +27,8 @@ use Rattle.compact.specs.declared.Graph as lent
 use Rattle.compact.specs.Marks.{Marked}
 use Rattle.compact.proofs.Marking.{marked_more}
 use Rattle.traces.specs.Indexed.{place_of, Indexed}
-use Rattle.traces.specs.Traces.{links_of, rest_of, rests_of, indexed_at, rights_of}
+use Rattle.compact.specs.Links.{links_of}
+use Rattle.traces.specs.Traces.{rest_of, rests_of, indexed_at, rights_of}
 use Rattle.half_chains.specs.Shelf.{Seeking, halves_from, halves_below, halves_of, shelf_of, halves_before}
 use Rattle.half_chains.specs.declared.sought.Sought.{Sought}
 use Rattle.traces.proofs.Turns.{further}

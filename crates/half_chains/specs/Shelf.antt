@@ -12,7 +12,8 @@ use Rattle.pages.specs.Pages.{emits, blank, record_with}
 use Rattle.pages.specs.declared.HandedOver.{HandedOver}
 use Rattle.traces.specs.Indexed.{place_of, Indexed}
 use Rattle.traces.specs.HandingOver.{page, writes}
-use Rattle.traces.specs.Traces.{links_of, ending_at, rights_of, following, taking}
+use Rattle.compact.specs.Links.{links_of}
+use Rattle.traces.specs.Traces.{ending_at, rights_of, following, taking}
 use Rattle.half_chains.specs.declared.sought.Sought.{Sought}
 use Rattle.traces.specs.declared.tracing.Purpose.{Purpose}
 use Rattle.traces.specs.declared.tracing.Tracing.{Tracing}

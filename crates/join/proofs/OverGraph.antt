@@ -30,7 +30,8 @@ use Rattle.join.specs.Answers.{halves_in, JoinsIn}
 use Rattle.traces.specs.Indexed.{place_of}
 use Rattle.traces.specs.HandingOver.{page}
 use Rattle.traces.specs.declared.tracing.Purpose.TheVariants.{Count, Write}
-use Rattle.traces.specs.Traces.{links_of, rights_of}
+use Rattle.compact.specs.Links.{links_of}
+use Rattle.traces.specs.Traces.{rights_of}
 use Rattle.half_chains.specs.Shelf.{Seeking, nothing, shelf_of, from_marked, Shelved, from_one, ways_of, Gather, Gathered}
 use Rattle.half_chains.specs.declared.sought.Sought.{Sought}
 use Rattle.std.specs.Prelude.{Ok, Err}

@@ -4,7 +4,7 @@ use Rattle.ways.specs.Halves.{halves}
 use Rattle.ways.specs.ByHops.{by_hops}
 use Rattle.ways.specs.Sizes.{record_size}
 use Rattle.compact.specs.declared.Graph as lent
-use Rattle.traces.specs.Traces.{links_of}
+use Rattle.compact.specs.Links.{links_of}
 use Rattle.half_chains.specs.declared.sought.Sought.{Sought}
 use Rattle.question.specs.declared.Question.{Question}
 use Rattle.refusals.specs.Faults.{Fault}

@@ -24,7 +24,8 @@ use Rattle.ways.proofs.Listed.{last_cons, last_at, way_last}
 use Rattle.ways.proofs.After.{after_all, after_from, after-listing}
 use Rattle.ways.proofs.Portions.{real_chains}
 use Rattle.ways.proofs.Records.{way_some, way_few, listing_fits, chain_of-record_of, length-record_of, is_record_in_true}
-use Rattle.compact.specs.Compact.{persons, graph_of}
+use Rattle.compact.specs.Compact.{persons}
+use Rattle.compact.specs.Links.{links_of}
 use Rattle.compact.specs.declared.Graph.{Graph}
 use Rattle.compact.proofs.Marking.{nobody, marked_more}
 use Rattle.pages.specs.Pages.{Page, emits, blank}
@@ -104,7 +105,7 @@ begun graph fewest from to room trail = record { graph = graph; ask = record { t
 module _ {graph : Graph} {fewest : List ℕ} {from to hops : ℕ} {start : Bookmark} (k : Asked graph.starts.now graph.targets.now fewest from to hops start) where
   pub list_ready : (out trail : List ℕ) → Ready (begun graph fewest from to (length out / record_size) trail) out (record { len = 1; left = hops }) start from
   list_ready out trail =
-      let mark = λ (b : Bor (List ℕ)) (e : start ≡ Some b). marks (graph_of graph.starts.now graph.targets.now) from to hops b.now (k.marked b e) in
+      let mark = λ (b : Bor (List ℕ)) (e : start ≡ Some b). marks (links_of graph) from to hops b.now (k.marked b e) in
       record {
         place = k.source;
         marked = rw (seen_first from) (marked_more from k.source nobody);
@@ -115,7 +116,7 @@ module _ {graph : Graph} {fewest : List ℕ} {from to hops : ℕ} {start : Bookm
         room = omega arith;
         begun = record { begins = λ b e. marks_begin k.few (mark b e) };
         ends = λ b e. marks_end k.few (mark b e);
-        hold = rw (seen_first from) (fewest_hold (graph_of graph.starts.now graph.targets.now) to hops fewest k.wide k.exact k.some (omega (arith, k.few)) (from ∷ []));
+        hold = rw (seen_first from) (fewest_hold (links_of graph) to hops fewest k.wide k.exact k.some (omega (arith, k.few)) (from ∷ []));
         fits = omega arith;
       }
 
@@ -123,12 +124,12 @@ module _ {graph : Graph} {fewest : List ℕ} {from to hops : ℕ} {start : Bookm
 
 -- those behind the bookmark are the ways behind its rest, with From before them
 behind : (graph : Graph) {fewest : List ℕ} {from to hops : ℕ} (start : Bookmark) → Asked graph.starts.now graph.targets.now fewest from to hops start
-    → map (◌∷◌ from) (onward start 1 (ways (graph_of graph.starts.now graph.targets.now) to hops (from ∷ []) from)) ≡ after (mark_of start) (listing (graph_of graph.starts.now graph.targets.now) from to hops)
+    → map (◌∷◌ from) (onward start 1 (ways (links_of graph) to hops (from ∷ []) from)) ≡ after (mark_of start) (listing (links_of graph) from to hops)
 unfolding listing onward
 behind graph {from = from} {to} {hops} None k =
-    sym (after_all [] (listing (graph_of graph.starts.now graph.targets.now) from to hops) (real_chains (graph_of graph.starts.now graph.targets.now) graph.compact.rising from to hops))
+    sym (after_all [] (listing (links_of graph) from to hops) (real_chains (links_of graph) graph.compact.rising from to hops))
 behind graph {from = from} {to} {hops} (Some b) k =
-    let g = graph_of graph.starts.now graph.targets.now in
+    let g = links_of graph in
     let m = marks g from to hops b.now (k.marked b refl) in
     rw (marks_chain k.few m, marks_rest k.few m) (sym (after-listing g from to hops m.rest))
 
@@ -139,7 +140,7 @@ pub list_answered : {graph : Graph} {fewest : List ℕ} {from to hops : ℕ} {st
     → GoneThrough (begun graph fewest from to (length out / record_size) trail) walk out out' (record { len = 1; left = hops }) start from more
     → Answered graph.starts.now graph.targets.now from to hops start out out' (record { count = walk.count; more = more })
 list_answered {graph} {fewest} {from} {to} {hops} {start} {out = out} {out'} {trail} k s =
-    let g = graph_of graph.starts.now graph.targets.now in
+    let g = links_of graph in
     let room = length out / record_size in
     let L = after (mark_of start) (listing g from to hops) in
     let ws = onward start 1 (ways g to hops (from ∷ []) from) in

@@ -29,7 +29,8 @@ use Rattle.barriers.specs.Settling.{Settled}
 use Rattle.barriers.proofs.Holding.{barred_none, barred_trans, hold_push}
 use Rattle.search.specs.HandingOver.{page, Handed}
 use Rattle.search.specs.Bookmarks.{onward, kept, Tight, Beside}
-use Rattle.search.specs.Entering.{links_of, seen_of, Ready, following, handed, next, Same, Held, GoneThrough, Entered, Barren}
+use Rattle.compact.specs.Links.{links_of}
+use Rattle.search.specs.Entering.{seen_of, Ready, following, handed, next, Same, Held, GoneThrough, Entered, Barren}
 use Rattle.search.specs.Places.{Bookmark}
 use Rattle.search.specs.declared.places.Stand.{Stand}
 use Rattle.search.specs.declared.walk.Walk.{Walk}
@@ -68,7 +69,7 @@ module _ {walk : Walk} {out : List ℕ} {s : Stand} {tight : Bookmark} {v : ℕ}
   -- v stands before the bookmark's next person
   pub enter_skipped : {side : Ordering} → Beside tight s.len v side → is_lt side ≡ true → Entered walk walk out out s tight v false
   unfolding by emits
-  enter_skipped side e = record { same = same_none; barred = here; right = go (eqb v walk.ask.to) (among v (seen_of walk.chain s.len)) (ways (links_of walk) walk.ask.to (s.left - 1) (v ∷ seen_of walk.chain s.len) v) }
+  enter_skipped side e = record { same = same_none; barred = here; right = go (eqb v walk.ask.to) (among v (seen_of walk.chain s.len)) (ways (links_of walk.graph) walk.ask.to (s.left - 1) (v ∷ seen_of walk.chain s.len) v) }
     where
       go : (a b : Bool) (ws : List (List ℕ)) → page walk false out ≡ emits true walk.ask.room (page walk false out) (map (record_with walk.chain s.len) (onward tight s.len (cond a ((v ∷ []) ∷ []) (cond b [] (map (◌∷◌ v) ws)))))
       go true b ws = rw (side.skipped e ([] ∷ []))
@@ -123,7 +124,7 @@ module _ {walk : Walk} {out : List ℕ} {s : Stand} {tight : Bookmark} {v : ℕ}
           → Handed walk walk' out out' s.len v (s.len + 1) more → Entered walk walk' out out' s tight v more
       unfolding by emits
       enter_last {side = side} b on left e h =
-          let only : ways (links_of walk) walk.ask.to (s.left - 1) (v ∷ seen_of walk.chain s.len) v ≡ (walk.ask.to ∷ []) ∷ [] = rw e (last_hop (links_of walk) walk.ask.to (v ∷ seen_of walk.chain s.len) v (walk.graph.compact.rising v) (k.hold.near v k.place ne (omega (arith, low, e)))) in
+          let only : ways (links_of walk.graph) walk.ask.to (s.left - 1) (v ∷ seen_of walk.chain s.len) v ≡ (walk.ask.to ∷ []) ∷ [] = rw e (last_hop (links_of walk.graph) walk.ask.to (v ∷ seen_of walk.chain s.len) v (walk.graph.compact.rising v) (k.hold.near v k.place ne (omega (arith, low, e)))) in
           record {
             same = (counted h.rest).0;
             barred = (counted h.rest).1;
@@ -167,11 +168,11 @@ module _ {walk : Walk} {out : List ℕ} {s : Stand} {tight : Bookmark} {v : ℕ}
 
       module _ {walk' : Walk} {out' : List ℕ} {more : Bool} (side : Ordering)
           (done : GoneThrough (record walk { marks = set walk.marks v true; chain = set walk.chain (s.len + 1) v }) walk' out out' (next s) (kept tight side) v more) where
-        on_barred : Barred (links_of walk) walk.ask.to (v ∷ seen_of walk.chain s.len) (s.left - 1) walk.barriers walk'.barriers walk.trail walk'.trail walk.height walk'.height
+        on_barred : Barred (links_of walk.graph) walk.ask.to (v ∷ seen_of walk.chain s.len) (s.left - 1) walk.barriers walk'.barriers walk.trail walk'.trail walk.height walk'.height
         on_barred = rw seen_next at done.barred
 
         -- nothing was found, so no way leads on from v
-        on_dead : Barren side walk.count walk'.count more → ways (links_of walk) walk.ask.to (s.left - 1) (v ∷ seen_of walk.chain s.len) v ≡ []
+        on_dead : Barren side walk.count walk'.count more → ways (links_of walk.graph) walk.ask.to (s.left - 1) (v ∷ seen_of walk.chain s.len) v ≡ []
         on_dead f =
             let right = rw seen_next at done.right in
             let none = emits_none true walk.ask.room (page walk false out) _ (sym (ap (λ (q : Page). q.more) right) ∙ f.none) (sym (ap (λ (q : Page). q.count) right) ∙ f.same) in
@@ -203,26 +204,26 @@ stands (x ∷ row) (suc i) h = Memᴰ.tail (stands row i (omega arith))
 
 -- the ways on through each of the persons
 abbrev pub still : Walk → Stand → Bookmark → List ℕ → List (List ℕ)
-still walk s tight row = onward tight s.len (flat_map (by walk.ask.to (seen_of walk.chain s.len) (ways (links_of walk) walk.ask.to (s.left - 1))) row)
+still walk s tight row = onward tight s.len (flat_map (by walk.ask.to (seen_of walk.chain s.len) (ways (links_of walk.graph) walk.ask.to (s.left - 1))) row)
 
 -- the loop's invariant: what was handed over, with what is still to come, is all
 pub record Turning (walk₀ : Walk) (out₀ : List ℕ) (s : Stand) (tight : Bookmark) (at : ℕ) (row : List ℕ) (walk : Walk) (out : List ℕ) (i : ℕ) : Type 0 where
   pub ready : Ready walk₀ out₀ s tight at
-  pub links : row ≡ links_of walk₀ at
+  pub links : row ≡ links_of walk₀.graph at
   pub same : Same walk₀ walk
   pub barred : Held walk₀ walk s
   pub long : length out ≡ length out₀
   pub right : handed walk₀ s (page walk false out) (still walk₀ s tight (drop i row)) ≡ handed walk₀ s (page walk₀ false out₀) (following walk₀ s tight at)
 
 module _ {walk : Walk} {out : List ℕ} {s : Stand} {tight : Bookmark} {at : ℕ} where
-  pub go_start : {row : List ℕ} → Ready walk out s tight at → row ≡ links_of walk at → Turning walk out s tight at row walk out 0
+  pub go_start : {row : List ℕ} → Ready walk out s tight at → row ≡ links_of walk.graph at → Turning walk out s tight at row walk out 0
   go_start {row} k e = record {
     ready = k;
     links = e;
     same = same_none;
     barred = barred_none k.hold k.fits;
     long = refl;
-    right = rw (e, ways-links (links_of walk) walk.ask.to s.left (seen_of walk.chain s.len) at k.some);
+    right = rw (e, ways-links (links_of walk.graph) walk.ask.to s.left (seen_of walk.chain s.len) at k.some);
   }
 
   module _ {row : List ℕ} {walk' : Walk} {out' : List ℕ} {i : ℕ} (inv : Turning walk out s tight at row walk' out' i) where

@@ -3,10 +3,10 @@ use Rattle.std.specs.Prelude.{◌≡◌, Bool, true, false, Some, List, [], ◌�
 use Rattle.std.specs.Borrow.{Bor}
 use Rattle.std.specs.declared.cmp.Ordering.{Ordering}
 use Rattle.std.specs.Ordering.{is_gt}
-use Rattle.ways.specs.Graph.{Graph}
 use Rattle.ways.specs.Listing.{by, ways}
 use Rattle.ways.specs.Sizes.{record_size}
-use Rattle.compact.specs.Compact.{persons, graph_of}
+use Rattle.compact.specs.Compact.{persons}
+use Rattle.compact.specs.Links.{links_of}
 use Rattle.compact.specs.Marks.{Marked}
 use Rattle.pages.specs.Pages.{Page, emits, record_with}
 use Rattle.barriers.specs.Barriers.{Hold, Barred}
@@ -15,10 +15,6 @@ use Rattle.search.specs.Bookmarks.{onward, Tight}
 use Rattle.search.specs.Places.{Bookmark}
 use Rattle.search.specs.declared.places.Stand.{Stand}
 use Rattle.search.specs.declared.walk.Walk.{Walk}
-
--- the persons that each has links to
-abbrev pub links_of : Walk → Graph
-links_of walk = graph_of walk.graph.starts.now walk.graph.targets.now
 
 -- the first n persons of the chain, the last first
 unfoldable pub seen_of : List ℕ → ℕ → List ℕ
@@ -37,16 +33,16 @@ pub record Ready (walk : Walk) (out : List ℕ) (s : Stand) (tight : Bookmark) (
   pub room : walk.ask.room * record_size ≤ length out
   pub begun : Tight tight s.len
   pub ends : (b : Bor (List ℕ)) → tight ≡ Some b → get_or b.now (get_or b.now 0 0 + 1) 0 ≡ walk.ask.to
-  pub hold : Hold (links_of walk) walk.ask.to (seen_of walk.chain s.len) walk.barriers
+  pub hold : Hold (links_of walk.graph) walk.ask.to (seen_of walk.chain s.len) walk.barriers
   pub fits : walk.height ≤ length walk.trail
 
 -- the ways on from the person at, who stands last in the chain
 abbrev pub following : Walk → Stand → Bookmark → ℕ → List (List ℕ)
-following walk s tight at = onward tight s.len (ways (links_of walk) walk.ask.to s.left (seen_of walk.chain s.len) at)
+following walk s tight at = onward tight s.len (ways (links_of walk.graph) walk.ask.to s.left (seen_of walk.chain s.len) at)
 
 -- the ways on whose next person is v
 abbrev pub through : Walk → Stand → Bookmark → ℕ → List (List ℕ)
-through walk s tight v = onward tight s.len (by walk.ask.to (seen_of walk.chain s.len) (ways (links_of walk) walk.ask.to (s.left - 1)) v)
+through walk s tight v = onward tight s.len (by walk.ask.to (seen_of walk.chain s.len) (ways (links_of walk.graph) walk.ask.to (s.left - 1)) v)
 
 -- the records of the chain so far with each of the ways behind it
 abbrev pub handed : Walk → Stand → Page → List (List ℕ) → Page
@@ -65,7 +61,7 @@ pub record Same (walk walk' : Walk) : Type 0 where
 
 -- what becomes of the barriers and the trail
 abbrev pub Held : Walk → Walk → Stand → Type 0
-Held walk walk' s = Barred (links_of walk) walk.ask.to (seen_of walk.chain s.len) s.left walk.barriers walk'.barriers walk.trail walk'.trail walk.height walk'.height
+Held walk walk' s = Barred (links_of walk.graph) walk.ask.to (seen_of walk.chain s.len) s.left walk.barriers walk'.barriers walk.trail walk'.trail walk.height walk'.height
 
 -- going through a person's links hands over the ways on from there, and leaves the marks and the chain as they were
 pub record GoneThrough (walk walk' : Walk) (out out' : List ℕ) (s : Stand) (tight : Bookmark) (at : ℕ) (more : Bool) : Type 0 where

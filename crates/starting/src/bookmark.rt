@@ -2,7 +2,7 @@
 ghost use Rattle.std.specs.Prelude.{◌≡◌, ◌≤◌, length};
 ghost use Rattle.ways.specs.Graph.{among};
 ghost use Rattle.ways.specs.Sizes.{record_size, most_hops};
-ghost use Rattle.compact.specs.Compact.{graph_of};
+ghost use Rattle.compact.specs.Links.{links_of};
 ghost use Rattle.listing.specs.Portions.{start_given};
 ghost use Rattle.starting.specs.Bookmark.{runs, leads_on, zeros, is_bookmark, start_fits};
 
@@ -12,7 +12,7 @@ use ways::RECORD;
 
 // Whether a link leads from a person to the next; whoever is no person has none.
 fn leads(graph: Graph<'_>, person: u32, next: u32) -> bool
-    ensures { result ≡ among next (graph_of graph.entry.starts.now graph.entry.targets.now person) }
+    ensures { result ≡ among next (links_of graph.entry person) }
 {
     let from = person as usize;
     from < PERSONS
@@ -26,7 +26,7 @@ fn leads(graph: Graph<'_>, person: u32, next: u32) -> bool
 // all behind.
 fn run(graph: Graph<'_>, way: &[u32], to: u32) -> bool
     requires { 1 ≤ length way.now }
-    ensures { result ≡ runs (graph_of graph.entry.starts.now graph.entry.targets.now) to way.now }
+    ensures { result ≡ runs (links_of graph.entry) to way.now }
 {
     let last = way.len() - 1;
     for at in 0..last {
@@ -42,7 +42,7 @@ fn run(graph: Graph<'_>, way: &[u32], to: u32) -> bool
 #[tactic(auto, using(crate::proofs::Cells::on_way))]
 fn leads_on(graph: Graph<'_>, from: u32, to: u32, way: &[u32]) -> bool
     requires { 1 ≤ length way.now }
-    ensures { result ≡ leads_on (graph_of graph.entry.starts.now graph.entry.targets.now) from to way.now }
+    ensures { result ≡ leads_on (links_of graph.entry) from to way.now }
 {
     leads(graph, from, way[0]) && (from == to || !way.contains(&from)) && run(graph, way, to)
 }
@@ -57,7 +57,7 @@ fn blank(cells: &[u32]) -> bool
 // Whether the cells are the record of a chain from `from` to `to` of at most `hops` hops, or of a ring where these are one person.
 fn is_bookmark(graph: Graph<'_>, from: u32, to: u32, hops: u32, cells: &[u32]) -> bool
     requires { hops ≤ most_hops }
-    ensures { result ≡ is_bookmark record_size (graph_of graph.entry.starts.now graph.entry.targets.now) from to hops cells.now }
+    ensures { result ≡ is_bookmark record_size (links_of graph.entry) from to hops cells.now }
 {
     if cells.len() != RECORD || !format::numbers::within(1, hops, cells[0]) {
         return false;
@@ -69,7 +69,7 @@ fn is_bookmark(graph: Graph<'_>, from: u32, to: u32, hops: u32, cells: &[u32]) -
 // Whether a portion may start here: a fresh start may, and a bookmark that is such a record.
 pub fn fits(graph: Graph<'_>, question: Question, start: Option<&[u32]>) -> bool
     requires { question.hops ≤ most_hops }
-    ensures { result ≡ start_fits (graph_of graph.entry.starts.now graph.entry.targets.now) question (start_given start.entry) }
+    ensures { result ≡ start_fits (links_of graph.entry) question (start_given start.entry) }
 {
     match start {
         None => true,

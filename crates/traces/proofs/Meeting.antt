@@ -18,7 +18,8 @@ use Rattle.compact.specs.declared.Graph as lent
 use Rattle.compact.specs.Marks.{Marked}
 use Rattle.compact.proofs.Rows.{row_people}
 use Rattle.compact.proofs.Marking.{marked_more}
-use Rattle.traces.specs.Traces.{links_of, clear, ending_at, following, taking}
+use Rattle.compact.specs.Links.{links_of}
+use Rattle.traces.specs.Traces.{clear, ending_at, following, taking}
 
 -- ---- rows in parts
 

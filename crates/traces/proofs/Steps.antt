@@ -19,7 +19,8 @@ use Rattle.pages.specs.Pages.{Page, emit, emits, record_with}
 use Rattle.pages.specs.declared.HandedOver.{HandedOver}
 use Rattle.traces.specs.Indexed.{place_of, Indexed}
 use Rattle.traces.specs.HandingOver.{page, writes, Handed, Ended}
-use Rattle.traces.specs.Traces.{links_of, clear, rest_of, rests_of, indexed_at, rights_in, handed, Ready, Arrived, following, taking, Extended}
+use Rattle.compact.specs.Links.{links_of}
+use Rattle.traces.specs.Traces.{clear, rest_of, rests_of, indexed_at, rights_in, handed, Ready, Arrived, following, taking, Extended}
 use Rattle.traces.specs.declared.trace.Trace.{Trace}
 use Rattle.traces.specs.declared.tracing.Tracing.{Tracing}
 use Rattle.traces.proofs.Turns.{Over, turn_on, turn_over}

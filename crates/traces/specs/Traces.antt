@@ -4,18 +4,14 @@ use mathlib.Core.List.{List, [], ◌∷◌, map, flat_map}
 use Rattle.std.specs.List.{list_all}
 use Rattle.ways.specs.Graph.{Graph, keep}
 use Rattle.ways.specs.Sizes.{record_size}
-use Rattle.compact.specs.Compact.{persons, graph_of}
-use Rattle.compact.specs.declared.Graph as lent
+use Rattle.compact.specs.Compact.{persons}
+use Rattle.compact.specs.Links.{links_of}
 use Rattle.pages.specs.Pages.{Page, emits, blank, record_with}
 use Rattle.pages.specs.declared.HandedOver.{HandedOver}
 use Rattle.traces.specs.Indexed.{place_of}
 use Rattle.traces.specs.HandingOver.{page, writes}
 use Rattle.traces.specs.declared.trace.Trace.{Trace}
 use Rattle.traces.specs.declared.tracing.Tracing.{Tracing}
-
--- whom the links of the lent graph lead to
-abbrev pub links_of : lent.Graph → Graph
-links_of g = graph_of g.starts.now g.targets.now
 
 -- so many cells from one on
 abbrev pub part : List ℕ → ℕ → ℕ → List ℕ

@@ -7,7 +7,7 @@ use Rattle.std.proofs.iter.Serving.{serving}
 use Rattle.std.proofs.Common.{rules}
 use Rattle.std.proofs.lemmas.Iterator.{YieldsList-from_slice}
 use Rattle.std.proofs.lemmas.Iterator.Search.{any_from_yields_List}
-use Rattle.compact.specs.Compact.{graph_of}
+use Rattle.compact.specs.Links.{links_of}
 use Rattle.distance.proofs.Looking.{row_person, any_anybody}
 use Rattle.distance.proofs.table.leads.Goals as goal
 
@@ -19,4 +19,4 @@ any-requires-clause-callable c =
 pub returns : goal.returns
 returns c =
     any_from_yields_List (λ v. eqb (get_or c.args.cells.now v 0) c.args.hops) _ _ _ c.any.ensures.ran (YieldsList-from_slice c.next.result.now c.iter.ensures.rest) (λ x b q k. search rules)
-    ∙ rw (c.next.ensures, any_anybody c.args.cells.now c.args.hops (graph_of c.args.graph.starts.now c.args.graph.targets.now c.args.person)) refl
+    ∙ rw (c.next.ensures, any_anybody c.args.cells.now c.args.hops (links_of c.args.graph c.args.person)) refl

@@ -9,7 +9,7 @@ use lib.Seq.{slice}
 use borrow.Author.Tests.{eq-eqb, ne_eqb}
 use Rattle.ways.specs.Sizes.{record_size}
 use Rattle.ways.proofs.Parts.{part_slice}
-use Rattle.compact.specs.Compact.{graph_of}
+use Rattle.compact.specs.Links.{links_of}
 use Rattle.starting.specs.Bookmark.{is_bookmark, leads_on}
 use Rattle.starting.proofs.Cells.{behind_all}
 use Rattle.starting.proofs.bookmark.is_bookmark.Goals as goal
@@ -28,7 +28,7 @@ pub returns-then-leads_on : goal.returns-then-leads_on
 unfolding is_bookmark
 returns-then-leads_on c =
     let cells = c.args.cells.now in
-    let on : c.if-cells-from.value ≡ (eqb (get_or cells 1 0) c.args.from && leads_on (graph_of c.args.graph.starts.now c.args.graph.targets.now) c.args.from c.args.to (slice 2 (get_or cells 0 0 + 2) cells)) =
+    let on : c.if-cells-from.value ≡ (eqb (get_or cells 1 0) c.args.from && leads_on (links_of c.args.graph) c.args.from c.args.to (slice 2 (get_or cells 0 0 + 2) cells)) =
     elim c.if-cells-from.branch [ then-cells-from w ↦ rw (w.value-is, w.leads_on.ensures, eq-eqb _ _ w.if-cells-from.true, part_slice 2 (get_or cells 0 0 + 2) cells (omega arith)) refl | else-cells-from w ↦ rw (w.value-is, ne_eqb _ _ w.if-cells-from.false) refl ] in
     rw (eq-eqb _ record_size c.if-cells-ne-RECORD.false, ← c.within.ensures, c.if-not-within.false, ← on, c.if-leads_on.true) (rw (behind_all (get_or cells 0 0 + 2) cells) at c.blank.ensures)
 
@@ -36,6 +36,6 @@ pub returns-else-leads_on : goal.returns-else-leads_on
 unfolding is_bookmark
 returns-else-leads_on c =
     let cells = c.args.cells.now in
-    let on : c.if-cells-from.value ≡ (eqb (get_or cells 1 0) c.args.from && leads_on (graph_of c.args.graph.starts.now c.args.graph.targets.now) c.args.from c.args.to (slice 2 (get_or cells 0 0 + 2) cells)) =
+    let on : c.if-cells-from.value ≡ (eqb (get_or cells 1 0) c.args.from && leads_on (links_of c.args.graph) c.args.from c.args.to (slice 2 (get_or cells 0 0 + 2) cells)) =
     elim c.if-cells-from.branch [ then-cells-from w ↦ rw (w.value-is, w.leads_on.ensures, eq-eqb _ _ w.if-cells-from.true, part_slice 2 (get_or cells 0 0 + 2) cells (omega arith)) refl | else-cells-from w ↦ rw (w.value-is, ne_eqb _ _ w.if-cells-from.false) refl ] in
     rw (eq-eqb _ record_size c.if-cells-ne-RECORD.false, ← c.within.ensures, c.if-not-within.false, ← on, c.if-leads_on.false) refl
