@@ -7,13 +7,25 @@ use reading::read_full;
 // The most bytes that are read.
 const SPACE: usize = 65_536;
 
-// A person, then the bytes of the view in two hexadecimal digits each. Here and below a write that fails is passed over.
+// Words as they stand. Here and below each piece is a write of its own, and one that fails is passed over: what follows it is written all the
+// same, wherever there is room for that.
+fn print(rt: &impl Print, words: &[u8]) {
+    let _ = rt.write_all(words);
+}
+
+fn print_number(rt: &impl Print, number: usize) {
+    let _ = print!(rt; "{number}");
+}
+
+// A person, then the bytes of the view in two hexadecimal digits each.
 fn print_view(rt: &impl Print, person: u32, view: &[u8]) {
-    let _ = print!(rt; "{person}:");
+    print_number(rt, person as usize);
+    print(rt, b":");
     for byte in view {
-        let _ = print!(rt; " {byte:02x}");
+        print(rt, b" ");
+        let _ = print!(rt; "{byte:02x}");
     }
-    let _ = println!(rt);
+    print(rt, b"\n");
 }
 
 fn print_views(rt: &impl Print, file: &[u8], persons: u32) {
@@ -25,14 +37,21 @@ fn print_views(rt: &impl Print, file: &[u8], persons: u32) {
 fn print_verdict(rt: &impl Print, file: &[u8]) {
     match checking::check(file) {
         Ok(counts) => {
-            let _ = println!(rt;
-                "passed: {} persons, {} links, {} feeds",
-                counts.persons, counts.links, counts.feeds
-            );
+            print(rt, b"passed: ");
+            print_number(rt, counts.persons);
+            print(rt, b" persons, ");
+            print_number(rt, counts.links);
+            print(rt, b" links, ");
+            print_number(rt, counts.feeds);
+            print(rt, b" feeds\n");
             print_views(rt, file, counts.persons as u32);
         }
         Err(refusal) => {
-            let _ = println!(rt; "{refusal}");
+            print(rt, b"refused ");
+            print_number(rt, refusal.reason.number() as usize);
+            print(rt, b" at ");
+            print_number(rt, refusal.place as usize);
+            print(rt, b"\n");
         }
     }
 }
