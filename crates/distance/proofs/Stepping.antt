@@ -11,7 +11,7 @@ use native.Mathlib.Omega.{arith}
 use borrow.Author.Tests.{eqb-true, eq-eqb, ne_eqb}
 use Rattle.compact.specs.Compact.{persons, graph_of}
 use Rattle.distance.specs.Table.{anybody, stepped, Stepped}
-use Rattle.distance.specs.Inside.{Rounding}
+use Rattle.distance.specs.Inside.{Linked, Rounding}
 
 -- A round so far: the persons before this one are settled, the others are as they were.
 pub record Stepping (starts targets before : List ℕ) (k h person : ℕ) (added : Bool) (cells : List ℕ) : Type 0 where
@@ -28,6 +28,12 @@ same_anybody : (a b : List ℕ) (h : ℕ) → ((v : ℕ) → eqb (get_or a v 0) 
 unfolding anybody
 same_anybody a b h s [] = refl
 same_anybody a b h s (v ∷ row) = rw (s v, same_anybody a b h s row)
+
+-- with no link a round leaves a cell as it is
+leads_nowhere : (cells : List ℕ) (h : ℕ) (unknown : Bool) (a b : ℕ) → cond (unknown && anybody cells h []) a b ≡ b
+unfolding anybody
+leads_nowhere cells h true a b = refl
+leads_nowhere cells h false a b = refl
 
 module _ {starts targets before : List ℕ} {k h : ℕ} (r : Rounding k h) {person : ℕ} {added : Bool} {cells : List ℕ} (s : Stepping starts targets before k h person added cells) where
   -- what the round has set holds neither h nor, before, held it
@@ -85,5 +91,10 @@ module _ {starts targets before : List ℕ} {k h : ℕ} (r : Rounding k h) {pers
             (get_or-set_same cells person (h + 1) 0 (omega (arith, s.size)) ∙ rw (was unknown, looked f ∙ e))
             (λ t. absurd (false≢true (sym t))))
 
-  pub stepping_ends : persons ≤ person → Stepped starts targets before k h added cells
-  stepping_ends l = record { size = s.size; cell = λ p i. s.done p (omega arith); quiet = s.quiet }
+  -- whoever stands behind all who have a link leads to nobody, and stays as before
+  pub stepping_ends : {people : ℕ} → Linked (graph_of starts targets) people → people ≤ person → Stepped starts targets before k h added cells
+  stepping_ends n l = record { size = s.size; cell = λ p i. cell p i (dec_lt p person); quiet = s.quiet }
+    where
+      cell : (p : ℕ) → p < persons → Dec (p < person) → get_or cells p 0 ≡ stepped starts targets before k h p
+      cell p i (yes d) = s.done p d
+      cell p i (no d) = s.still p (omega arith) ∙ rw (n.none p (omega (arith, l)) i) (sym (leads_nowhere before h (eqb (get_or before p 0) (k + 1)) (h + 1) (get_or before p 0)))
