@@ -11,7 +11,7 @@ use native.Mathlib.Omega.{arith}
 use borrow.Author.Tests.{eqb-true, eq-eqb, ne_eqb}
 use Rattle.compact.specs.Compact.{persons, graph_of}
 use Rattle.distance.specs.Table.{anybody, stepped, Stepped}
-use Rattle.distance.specs.Inside.{Linked, Rounding}
+use Rattle.distance.specs.Inside.{NobodyBehind, Rounding}
 
 -- A round so far: the persons before this one are settled, the others are as they were.
 pub record Stepping (starts targets before : List ℕ) (k h person : ℕ) (added : Bool) (cells : List ℕ) : Type 0 where
@@ -92,7 +92,7 @@ module _ {starts targets before : List ℕ} {k h : ℕ} (r : Rounding k h) {pers
             (λ t. absurd (false≢true (sym t))))
 
   -- whoever stands behind all who have a link leads to nobody, and stays as before
-  pub stepping_ends : {people : ℕ} → Linked (graph_of starts targets) people → people ≤ person → Stepped starts targets before k h added cells
+  pub stepping_ends : {people : ℕ} → NobodyBehind (graph_of starts targets) people → people ≤ person → Stepped starts targets before k h added cells
   stepping_ends n l = record { size = s.size; cell = λ p i. cell p i (dec_lt p person); quiet = s.quiet }
     where
       cell : (p : ℕ) → p < persons → Dec (p < person) → get_or cells p 0 ≡ stepped starts targets before k h p

@@ -10,7 +10,7 @@ pub record Readable (to k : ℕ) : Type 0 where
   pub hops : k ≤ most_hops
 
 -- so many persons, behind whom nobody has a link
-pub record Linked (g : Graph) (people : ℕ) : Type 0 where
+pub record NobodyBehind (g : Graph) (people : ℕ) : Type 0 where
   pub most : people ≤ persons
   pub none : (p : ℕ) → people ≤ p → p < persons → g p ≡ []
 

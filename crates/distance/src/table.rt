@@ -3,7 +3,7 @@ ghost use Rattle.std.specs.Prelude.{◌≡◌, ◌<◌};
 ghost use Rattle.compact.specs.Compact.{persons};
 ghost use Rattle.compact.specs.Links.{links_of};
 ghost use Rattle.distance.specs.Table.{Table, Stepped, anybody};
-ghost use Rattle.distance.specs.Inside.{Readable, Linked, Rounding};
+ghost use Rattle.distance.specs.Inside.{Readable, NobodyBehind, Rounding};
 
 use compact::{Graph, PERSONS};
 
@@ -20,7 +20,7 @@ fn leads(graph: Graph<'_>, cells: &[u8; PERSONS], person: usize, hops: u8) -> bo
 
 // How many persons there are up to the last who has a link: nobody behind leads anywhere, so no round has to look there.
 fn linked(graph: Graph<'_>) -> usize
-    ensures { Linked (links_of graph.entry) result }
+    ensures { NobodyBehind (links_of graph.entry) result }
 {
     for person in (0..PERSONS).rev() {
         if !graph.next(person).is_empty() {
@@ -33,7 +33,7 @@ fn linked(graph: Graph<'_>) -> usize
 // One round: whoever is still unknown and has a link to somebody of `hops` has one more. Answers whether anybody was added. The cells
 // that this round sets do not disturb it: none of them holds `hops`.
 fn round(graph: Graph<'_>, people: usize, most: u8, hops: u8, cells: &mut [u8; PERSONS]) -> bool
-    requires { (Rounding most hops) × (Linked (links_of graph) people) }
+    requires { (Rounding most hops) × (NobodyBehind (links_of graph) people) }
     ensures { Stepped graph.entry.starts.now graph.entry.targets.now cells.old most hops result cells.new }
 {
     let mut added = false;
